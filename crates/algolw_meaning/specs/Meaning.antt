@@ -1,0 +1,37 @@
+-- What a job without a flaw gives.
+use Rattle.std.specs.Prelude.{ℕ, List, [], ◌∷◌, ◌++◌, codes, decimal, Option, Some, None}
+use Rattle.deck_reader.specs.JobView.{JobView}
+use Rattle.deck_reader.specs.declared.charges.Counts.{Counts}
+use Rattle.algolw_meaning.specs.Texts.{right, line, source_line, source_lines, sum_line}
+use Rattle.algolw_meaning.specs.Sums.{sum_of_deck}
+use Rattle.algolw_meaning.specs.declared.ending.Ending.{Ending}
+use Rattle.algolw_meaning.specs.declared.ending.Ending.TheVariants.{Normal, Diagnosed}
+
+-- the body of a job's section, what the job used, and how it ended
+pub record JobResult : Type 0 where
+  pub body : List ℕ
+  pub counts : Counts
+  pub ending : Ending
+
+abbrev pub counts_of : ℕ → ℕ → ℕ → Counts
+counts_of cards steps lines = record { cards = cards; steps = steps; lines = lines }
+
+abbrev pub first_card : List (List ℕ) → List ℕ
+first_card [] = []
+first_card (card ∷ cards) = card
+
+-- the body of a job whose card wrote a sum
+abbrev pub ran_body : List ℕ → ℕ → Counts → List ℕ
+ran_body card sum counts = source_line 1 (codes "1") card ++ line (codes "OUTPUT") ++ line (right 14 (decimal sum)) ++ line (codes "ENDED NORMALLY") ++ sum_line counts
+
+-- the body of a job whose deck can't be run by now
+abbrev pub diagnosed_body : List (List ℕ) → Counts → List ℕ
+diagnosed_body deck counts = source_lines 1 deck ++ line (codes "DIAGNOSTIC 90 AT 1,1: DECK NOT OF THE PRESENT FORM") ++ sum_line counts
+
+abbrev pub result_by : Option ℕ → JobView → JobResult
+result_by None job = record { body = diagnosed_body job.deck (counts_of job.cards 0 0); counts = counts_of job.cards 0 0; ending = Diagnosed }
+result_by (Some sum) job = record { body = ran_body (first_card job.deck) sum (counts_of job.cards 2 1); counts = counts_of job.cards 2 1; ending = Normal }
+
+-- a deck that writes a sum takes two steps and prints one line; every other one is diagnosed
+abbrev pub job_result : JobView → JobResult
+job_result job = result_by (sum_of_deck job.deck) job

@@ -1,0 +1,26 @@
+-- The lines of a section.
+use Rattle.std.specs.Prelude.{ℕ, ◌-◌, ◌+◌, List, [], ◌∷◌, ◌++◌, length, replicate, decimal, codes}
+use Rattle.deck_reader.specs.Cards.{trimmed}
+use Rattle.deck_reader.specs.Charges.{charge}
+use Rattle.deck_reader.specs.declared.charges.Counts.{Counts}
+
+-- a text with blanks before it, that fills a width
+abbrev pub right : ℕ → List ℕ → List ℕ
+right width text = replicate (width - length text) 32 ++ text
+
+-- a text and a line feed
+abbrev pub line : List ℕ → List ℕ
+line text = text ++ 10 ∷ []
+
+-- a card behind its number and a count
+abbrev pub source_line : ℕ → List ℕ → List ℕ → List ℕ
+source_line number count card = line (trimmed (right 4 (decimal number) ++ 32 ∷ [] ++ right 8 count ++ 32 ∷ 32 ∷ [] ++ card))
+
+-- the cards from this number on, with no counts
+abbrev pub source_lines : ℕ → List (List ℕ) → List ℕ
+source_lines number [] = []
+source_lines number (card ∷ cards) = source_line number [] card ++ source_lines (number + 1) cards
+
+-- what a job used, and its charge
+abbrev pub sum_line : Counts → List ℕ
+sum_line counts = line (codes "CARDS " ++ decimal counts.cards ++ codes " STEPS " ++ decimal counts.steps ++ codes " LINES " ++ decimal counts.lines ++ codes " CHARGE " ++ decimal (charge counts))

@@ -1,0 +1,5 @@
+pub mod Causes
+pub mod Pace
+pub mod Supply
+pub mod Store
+pub mod Counted

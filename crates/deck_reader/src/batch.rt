@@ -1,0 +1,91 @@
+use crate::listed::Listed;
+use crate::short::{Card, Name};
+use std::marker::Model;
+
+/// Why a job is refused before its deck is looked at.
+#[derive(Clone, Copy, Debug, PartialEq, Eq)]
+pub enum Flaw {
+    /// Flaw 1: one of its cards is over 80 bytes.
+    CardTooLong,
+    /// Flaw 2: one of its cards holds a byte that isn't allowed.
+    ByteNotAllowed,
+    /// Flaw 3: its job card isn't of the form.
+    JobCard,
+    /// Flaw 4: a number on its job card is out of range.
+    NumberOutOfRange,
+    /// Flaw 5: it has over 2,000 cards.
+    TooManyCards,
+    /// Flaw 6: its account isn't open.
+    AccountUnknown,
+}
+
+/// An account, as its card opened it.
+#[derive(Drop)]
+pub struct Account {
+    /// A capital letter and at most 7 more capitals or digits.
+    pub name: Name,
+    /// The opening balance, at most 999,999,999.
+    pub opening: u64,
+}
+
+/// A job, as its cards state it.
+#[derive(Drop)]
+pub struct Job {
+    /// Its number in the batch, from 1.
+    pub number: u32,
+    /// Its name, or `?` where the job can't be read.
+    pub name: Name,
+    /// Its account's name, or `?` where the job can't be read.
+    pub account_name: Name,
+    /// Its account's number in the batch, from 0, where that is open.
+    pub account: Option<u32>,
+    /// Its deck. A flawed job has none.
+    pub deck: Listed<Card>,
+    /// Its data cards. A flawed job has none.
+    pub data_cards: Listed<Card>,
+    /// The most steps that it may take, 1 to 10,000,000.
+    pub steps: u32,
+    /// The most lines that it may print, 1 to 500.
+    pub lines: u32,
+    /// How many cards it has, the job card among them.
+    pub cards: u32,
+    /// Why it is refused, where it is.
+    pub flaw: Option<Flaw>,
+}
+
+impl Model for Job {
+    ghost use Rattle.deck_reader.specs.JobView.{JobView};
+    ghost use Rattle.deck_reader.specs.Forms.{is_clean};
+    ghost use Rattle.std.specs.Prelude.{ℕ, ◌≡◌, ◌≤◌, ◌<◌, ◌+◌, true, length, IfNone, IsSome};
+    ghost use Rattle.std.specs.List.{list_all};
+
+    ghost Value = { JobView };
+
+    ghost view = { λ j. record {
+      number = j.number;
+      name = j.name;
+      account_name = j.account_name;
+      account = j.account;
+      deck = j.deck;
+      data_cards = j.data_cards;
+      steps = j.steps;
+      lines = j.lines;
+      cards = j.cards;
+      flaw = j.flaw;
+    } };
+
+    ghost invariant = { λ j. (1 ≤ j.steps) × (j.steps ≤ 10000000) × (1 ≤ j.lines) × (j.lines ≤ 500)
+        × IfNone j.flaw (IsSome j.account × (j.cards ≤ 2000) × (length j.deck + length j.data_cards < j.cards)
+        × (list_all is_clean j.deck ≡ true) × (list_all is_clean j.data_cards ≡ true)) };
+}
+
+/// What a whole input is.
+#[derive(Drop)]
+pub struct Batch {
+    /// The accounts, in the order of their cards: at most 500, each with a name of its own.
+    pub accounts: Listed<Account>,
+    /// The jobs, in the order of their cards.
+    pub jobs: Listed<Job>,
+    /// How many stray cards there are.
+    pub stray: u32,
+}

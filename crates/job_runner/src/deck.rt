@@ -1,0 +1,102 @@
+ghost use Rattle.std.specs.Prelude.{◌≡◌, ◌≤◌, ◌<◌, ◌^◌, ◌∷◌, ◌++◌, [], IfOk, IfSome, MatchOption, None, Some, if◌then◌else◌, length};
+ghost use Rattle.std.specs.Str.Parse.{digits_value};
+ghost use Rattle.deck_reader.specs.Forms.{is_digits};
+ghost use Rattle.algolw_meaning.specs.Sums.{term, sum_of_text, sum_of_card, sum_of_deck};
+ghost use Rattle.algolw_meaning.specs.Meaning.{first_card};
+
+use deck_reader::{Card, split_once};
+use std::alloc::{AllocError, Global};
+
+/// The largest INTEGER.
+const LARGEST: u64 = 2_147_483_647;
+
+/// The most digits of a number.
+const MOST_DIGITS: usize = 10;
+
+/// The number that digits stand for.
+fn value_of(digits: &[u8]) -> Option<u64>
+    requires { length digits.now ≤ 10 }
+    ensures value { result ≡ (if is_digits digits.now then Some (digits_value 10 digits.now) else None) }
+    ensures small { IfSome result (λ n. n < 10 ^ 10) }
+{
+    if digits.is_empty() {
+        return None;
+    }
+    let mut value = 0;
+    for digit in digits {
+        if *digit < b'0' || *digit > b'9' {
+            return None;
+        }
+        value = 10 * value + u64::from(*digit - b'0');
+    }
+    Some(value)
+}
+
+/// The number with a blank on either side.
+fn term(text: &[u8]) -> Option<u64>
+    ensures value { result ≡ term text.now }
+    ensures small { IfSome result (λ n. n < 10 ^ 10) }
+{
+    match text {
+        [b' ', digits @ .., b' '] if digits.len() <= MOST_DIGITS => value_of(digits),
+        _ => None,
+    }
+}
+
+/// The sum of the terms between the plus signs.
+fn sum_of_text(text: &[u8]) -> Option<u64>
+    requires { length text.now ≤ 82 }
+    ensures { result ≡ sum_of_text text.now }
+{
+    let mut total = 0;
+    let mut rest = text;
+    while let Some((front, behind)) = split_once(rest, b'+') {
+        let number = term(front)?;
+        total += number;
+        rest = behind;
+    }
+    let last = term(rest)?;
+    Some(total + last)
+}
+
+/// The text with a blank on either side.
+fn padded(alloc: Global, text: &[u8]) -> Result<Vec<u8>, AllocError>
+    ensures { IfOk result (λ v. v.items ≡ 32 ∷ text.now ++ 32 ∷ []) }
+{
+    let mut padded = Vec::new(alloc);
+    padded.push(b' ')?;
+    padded.extend_from_slice(text)?;
+    padded.push(b' ')?;
+    Ok(padded)
+}
+
+/// The sum that a card writes.
+fn sum_of_card(alloc: Global, card: &[u8]) -> Result<Option<u64>, AllocError>
+    requires { length card.now ≤ 80 }
+    ensures { IfOk result (λ s. s ≡ sum_of_card card.now) }
+{
+    let Some(rest) = card.strip_prefix(b"BEGIN WRITE(") else {
+        return Ok(None);
+    };
+    let Some(terms) = rest.strip_suffix(b") END.") else {
+        return Ok(None);
+    };
+    let text = padded(alloc, terms)?;
+    match sum_of_text(text.as_slice()) {
+        Some(total) if total <= LARGEST => Ok(Some(total)),
+        _ => Ok(None),
+    }
+}
+
+/// The sum that a deck writes and its card, where the deck has the form.
+pub fn sum_of_deck(alloc: Global, deck: &[Card]) -> Result<Option<(u64, &[u8])>, AllocError>
+    ensures { IfOk result (λ s. MatchOption s (sum_of_deck deck.now ≡ None) (λ p. (sum_of_deck deck.now ≡ Some p.0) × (p.1.now ≡ first_card deck.now))) }
+{
+    match deck {
+        [card] => match sum_of_card(alloc, card.as_slice())? {
+            Some(sum) => Ok(Some((sum, card.as_slice()))),
+            None => Ok(None),
+        },
+        _ => Ok(None),
+    }
+}

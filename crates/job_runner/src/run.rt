@@ -1,0 +1,91 @@
+ghost use Rattle.std.specs.Prelude.{◌≡◌, ◌≤◌, ◌++◌, None, IfOk, OnOk, length};
+ghost use Rattle.deck_reader.specs.Charges.{charge, reserve};
+ghost use Rattle.algolw_meaning.specs.Texts.{source_lines};
+ghost use Rattle.algolw_meaning.specs.Meaning.{ran_body, diagnosed_body};
+
+use crate::deck::sum_of_deck;
+use crate::text;
+use algolw_meaning::{Ended, Ending};
+use deck_reader::{Card, Counts, Job};
+use std::alloc::{AllocError, Global};
+use std::sync::Arc;
+
+/// A place to run jobs at, one after the other.
+#[derive(Drop)]
+pub struct Desk {}
+
+impl Desk {
+    /// A desk that was never used.
+    pub fn new() -> Result<Desk, AllocError> {
+        Ok(Desk {})
+    }
+}
+
+/// Runs a job without a flaw. Its charge is at most its reserve.
+pub fn run_job(alloc: Global, _desk: &mut Desk, job: &Arc<Job>) -> Result<Ended, AllocError>
+    requires { job.now.value.flaw ≡ None }
+    ensures same { IfOk result (λ e. e.job ≡ job.now.value) }
+    ensures within { IfOk result (λ e. charge e.counts ≤ reserve e.job) }
+{
+    let of: &Job = job;
+    let deck = of.deck.as_slice();
+    match sum_of_deck(alloc, deck)? {
+        Some((sum, card)) => {
+            let counts = Counts {
+                cards: of.cards,
+                steps: 2,
+                lines: 1,
+            };
+            let body = write_ran(alloc, card, sum, counts)?;
+            Ok(Ended::new(job.clone()?, body, counts, Ending::Normal))
+        }
+        None => {
+            let counts = Counts {
+                cards: of.cards,
+                steps: 0,
+                lines: 0,
+            };
+            let body = write_diagnosed(alloc, deck, counts)?;
+            Ok(Ended::new(job.clone()?, body, counts, Ending::Diagnosed))
+        }
+    }
+}
+
+/// The body of a job whose card wrote this sum.
+fn write_ran(alloc: Global, card: &[u8], sum: u64, counts: Counts) -> Result<Vec<u8>, AllocError>
+    ensures { IfOk result (λ v. v.items ≡ ran_body card.now sum counts) }
+{
+    let mut out = Vec::new(alloc);
+    text::push_source_line(alloc, &mut out, 1, b"1", card)?;
+    text::push_line(&mut out, b"OUTPUT")?;
+    text::push_integer_line(&mut out, sum)?;
+    text::push_line(&mut out, b"ENDED NORMALLY")?;
+    text::push_sum_line(&mut out, counts)?;
+    Ok(out)
+}
+
+/// The body of a job whose deck can't be run.
+fn write_diagnosed(alloc: Global, deck: &[Card], counts: Counts) -> Result<Vec<u8>, AllocError>
+    requires { length deck.now ≤ 2000 }
+    ensures { IfOk result (λ v. v.items ≡ diagnosed_body deck.now counts) }
+{
+    let mut out = Vec::new(alloc);
+    push_source(alloc, &mut out, deck)?;
+    text::push_line(
+        &mut out,
+        b"DIAGNOSTIC 90 AT 1,1: DECK NOT OF THE PRESENT FORM",
+    )?;
+    text::push_sum_line(&mut out, counts)?;
+    Ok(out)
+}
+
+/// Adds the cards from the first on, with no counts.
+fn push_source(alloc: Global, out: &mut Vec<u8>, deck: &[Card]) -> Result<(), AllocError>
+    requires { length deck.now ≤ 2000 }
+    ensures { OnOk result (out.new.items ≡ out.old.items ++ source_lines 1 deck.now) }
+{
+    for (i, card) in deck.iter().enumerate() {
+        text::push_source_line(alloc, out, i as u32 + 1, b"", card.as_slice())?;
+    }
+    Ok(())
+}

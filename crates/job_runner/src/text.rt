@@ -1,0 +1,94 @@
+ghost use Rattle.std.specs.Prelude.{◌≡◌, ◌++◌, OnOk, decimal};
+ghost use Rattle.algolw_meaning.specs.Texts.{right, line, source_line, sum_line};
+
+use deck_reader::{Counts, charge_of, without_blanks};
+use itoa::Buffer;
+use std::alloc::{AllocError, Global};
+
+/// The columns of a card's number, of a count, and of an INTEGER that is printed.
+const NUMBER_WIDTH: usize = 4;
+
+const COUNT_WIDTH: usize = 8;
+
+const INTEGER_WIDTH: usize = 14;
+
+/// Adds the decimal text of a number.
+pub fn push_number(out: &mut Vec<u8>, number: u64) -> Result<(), AllocError>
+    ensures { OnOk result (out.new.items ≡ out.old.items ++ decimal number) }
+{
+    let mut buffer = Buffer::new();
+    out.extend_from_slice(buffer.format(number).as_bytes())?;
+    Ok(())
+}
+
+/// Adds a text and a line feed.
+pub fn push_line(out: &mut Vec<u8>, text: &[u8]) -> Result<(), AllocError>
+    ensures { OnOk result (out.new.items ≡ out.old.items ++ line text.now) }
+{
+    out.extend_from_slice(text)?;
+    out.push(b'\n')?;
+    Ok(())
+}
+
+/// Adds a text with blanks before it, so that it fills a width.
+#[tactic(auto, using(std::proofs::lemmas::List::replicate_more))]
+fn push_right(out: &mut Vec<u8>, width: usize, text: &[u8]) -> Result<(), AllocError>
+    ensures { OnOk result (out.new.items ≡ out.old.items ++ right width text.now) }
+{
+    for blank in 0..width.saturating_sub(text.len()) {
+        out.push(b' ')?;
+    }
+    out.extend_from_slice(text)?;
+    Ok(())
+}
+
+/// Adds a number with blanks before it, so that it fills a width.
+fn push_number_right(out: &mut Vec<u8>, width: usize, number: u64) -> Result<(), AllocError>
+    ensures { OnOk result (out.new.items ≡ out.old.items ++ right width (decimal number)) }
+{
+    let mut buffer = Buffer::new();
+    push_right(out, width, buffer.format(number).as_bytes())
+}
+
+/// Adds a line with an INTEGER.
+pub fn push_integer_line(out: &mut Vec<u8>, number: u64) -> Result<(), AllocError>
+    ensures { OnOk result (out.new.items ≡ out.old.items ++ line (right 14 (decimal number))) }
+{
+    push_number_right(out, INTEGER_WIDTH, number)?;
+    out.push(b'\n')?;
+    Ok(())
+}
+
+/// Adds a card behind its number and a count.
+pub fn push_source_line(
+    alloc: Global,
+    out: &mut Vec<u8>,
+    number: u32,
+    count: &[u8],
+    card: &[u8],
+) -> Result<(), AllocError>
+    ensures { OnOk result (out.new.items ≡ out.old.items ++ source_line number count.now card.now) }
+{
+    let mut text = Vec::new(alloc);
+    push_number_right(&mut text, NUMBER_WIDTH, u64::from(number))?;
+    text.push(b' ')?;
+    push_right(&mut text, COUNT_WIDTH, count)?;
+    text.extend_from_slice(b"  ")?;
+    text.extend_from_slice(card)?;
+    push_line(out, without_blanks(text.as_slice()))
+}
+
+/// Adds the line with what a job used and its charge.
+pub fn push_sum_line(out: &mut Vec<u8>, counts: Counts) -> Result<(), AllocError>
+    ensures { OnOk result (out.new.items ≡ out.old.items ++ sum_line counts) }
+{
+    out.extend_from_slice(b"CARDS ")?;
+    push_number(out, u64::from(counts.cards))?;
+    out.extend_from_slice(b" STEPS ")?;
+    push_number(out, u64::from(counts.steps))?;
+    out.extend_from_slice(b" LINES ")?;
+    push_number(out, u64::from(counts.lines))?;
+    out.extend_from_slice(b" CHARGE ")?;
+    push_number(out, charge_of(counts))?;
+    push_line(out, b"")
+}

@@ -1,0 +1,11 @@
+use Rattle.std.proofs.Common.{◌≡◌, ◌-◌, length, None}
+use Rattle.std.specs.Io.KnownBytes.{Consumes}
+use Rattle.monitor.proofs.reading.read_all.Given as goal
+
+abbrev pub invariant-loop-reader : goal.invariant-loop-reader
+invariant-loop-reader g l =
+    (l.reader.refused ≡ None) × Consumes (g.S.Source.left l.initial.src) (g.S.Source.left l.src) l.reader.bytes
+    × (g.S.Source.faults l.src ≡ g.S.Source.faults l.initial.src)
+
+abbrev pub decreases-loop-reader : goal.decreases-loop-reader
+decreases-loop-reader g l = 4194304 - length l.reader.bytes

@@ -1,0 +1,6 @@
+pub mod Places
+pub mod Texts
+pub mod Listing
+pub mod Table
+pub mod Outcome
+pub mod Status

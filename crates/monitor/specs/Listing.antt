@@ -1,0 +1,56 @@
+-- The listing of a batch: each job at its place, and then the closing balances.
+use Rattle.std.specs.Prelude.{ℕ, List, ◌++◌, map, flat_map, take, nat_le, if◌then◌else◌, Option, Some, None}
+use Rattle.std.specs.List.{enumerate_from}
+use Rattle.deck_reader.specs.declared.batch.Account.{Account}
+use Rattle.deck_reader.specs.declared.batch.Batch.{Batch}
+use Rattle.deck_reader.specs.declared.batch.Flaw.{Flaw}
+use Rattle.deck_reader.specs.JobView.{JobView}
+use Rattle.deck_reader.specs.Batch.{batch}
+use Rattle.deck_reader.specs.Charges.{reserve}
+use Rattle.algolw_meaning.specs.Meaning.{job_result}
+use Rattle.monitor.specs.declared.decision.Decision.{Decision}
+use Rattle.monitor.specs.declared.decision.Decision.TheVariants.{Flawed, Short, Accepted}
+use Rattle.monitor.specs.Places.{place_balance, charged}
+use Rattle.monitor.specs.Texts.{heading, title, flawed_line, short_line, closing_line, closing}
+
+abbrev pub decision_by : Option Flaw → Option ℕ → ℕ → (ℕ → ℕ) → Decision
+decision_by (Some flaw) account reserve balance = Flawed flaw
+decision_by None None reserve balance = Short reserve 0
+decision_by None (Some account) reserve balance = if nat_le reserve (balance account) then Accepted account else Short reserve (balance account)
+
+-- a job is refused for its flaw, refused where its reserve is above its account's balance, and accepted otherwise
+abbrev pub decision : (ℕ → ℕ) → JobView → Decision
+decision balance job = decision_by job.flaw job.account (reserve job) balance
+
+abbrev pub body : Decision → JobView → List ℕ
+body (Flawed flaw) job = flawed_line flaw
+body (Short reserve balance) job = short_line reserve balance
+body (Accepted account) job = (job_result job).body
+
+-- the section of a job where these are the balances
+abbrev pub section_with : (ℕ → ℕ) → JobView → List ℕ
+section_with balance job = title job ++ body (decision balance job) job
+
+-- the section of a job at its place, behind these jobs
+abbrev pub section : List ℕ → List JobView → JobView → List ℕ
+section openings earlier job = section_with (place_balance openings (map charged earlier)) job
+
+-- the section of each job at its place
+abbrev pub sections : List ℕ → List JobView → List ℕ
+sections openings jobs = flat_map (λ p. section openings (take p.0 jobs) p.1) (enumerate_from 0 jobs)
+
+-- a line for each account, with its balance behind all jobs
+abbrev pub closing_lines : List ℕ → List JobView → List Account → List ℕ
+closing_lines openings jobs accounts = flat_map (λ p. closing_line p.1 (place_balance openings (map charged jobs) p.0)) (enumerate_from 0 accounts)
+
+abbrev pub openings_of : List Account → List ℕ
+openings_of accounts = map (λ a. a.opening) accounts
+
+abbrev pub listing_of : Batch → List ℕ
+listing_of b =
+    let openings = openings_of b.accounts in
+    heading ++ sections openings b.jobs ++ closing (closing_lines openings b.jobs b.accounts) b.stray
+
+-- the listing of an input
+abbrev pub listing : List ℕ → List ℕ
+listing bytes = listing_of (batch bytes)

@@ -1,0 +1,29 @@
+-- What a run has read and written.
+use Rattle.std.specs.Prelude.{ℕ, ◌≡◌, true, false, List, Option, take}
+use Rattle.std.specs.Io.KnownBytes.{Consumes, Appends, IsAtEnd}
+use Rattle.deck_reader.specs.Batch.{too_large}
+use Rattle.monitor.specs.Listing.{listing}
+
+-- known bytes grow by a prefix of these
+abbrev pub AppendsPrefix : Option (List ℕ) → Option (List ℕ) → List ℕ → Type 0
+AppendsPrefix old new bytes = (n : ℕ) × Appends old new (take n bytes)
+
+-- the whole source was read, it wasn't too large, and its listing was written whole
+pub record IsDone (left left' written written' : Option (List ℕ)) : Type 0 where
+  pub input : List ℕ
+  pub read : Consumes left left' input
+  pub to_end : IsAtEnd left'
+  pub fits : too_large input ≡ false
+  pub wrote : Appends written written' (listing input)
+
+-- a part of the source was read, and a prefix of the listing of that part was written
+pub record IsCutShort (left left' written written' : Option (List ℕ)) : Type 0 where
+  pub input : List ℕ
+  pub read : Consumes left left' input
+  pub wrote : AppendsPrefix written written' (listing input)
+
+-- what was read is too large
+pub record IsTooLarge (left left' : Option (List ℕ)) : Type 0 where
+  pub input : List ℕ
+  pub read : Consumes left left' input
+  pub large : too_large input ≡ true

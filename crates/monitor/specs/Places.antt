@@ -1,0 +1,44 @@
+-- The money of a batch: what is left of each account at each place.
+use Rattle.std.specs.Prelude.{ℕ, ◌-◌, Bool, false, ◌&&◌, ◌==◌, nat_le, if◌then◌else◌, List, Option, Some, None, fold, slice_index}
+use Rattle.deck_reader.specs.declared.batch.Flaw.{Flaw}
+use Rattle.deck_reader.specs.JobView.{JobView}
+use Rattle.deck_reader.specs.Charges.{charge, reserve}
+use Rattle.algolw_meaning.specs.Meaning.{job_result}
+
+-- the account that is to pay, where there is one, and the most that it is to pay
+pub record Claim : Type 0 where
+  pub account : Option ℕ
+  pub reserve : ℕ
+
+abbrev pub is_on : ℕ → Option ℕ → Bool
+is_on account None = false
+is_on account (Some payer) = payer == account
+
+-- whether an account's balance covers a reserve
+abbrev pub covers : (ℕ → ℕ) → Option ℕ → ℕ → Bool
+covers balance None reserve = false
+covers balance (Some account) reserve = nat_le reserve (balance account)
+
+-- a claim is accepted where it has an account and its reserve is at most the balance of that
+abbrev pub is_accepted : (ℕ → ℕ) → Claim → Bool
+is_accepted balance claim = covers balance claim.account claim.reserve
+
+-- the balance of an account behind a claim and its charge
+abbrev pub after : ℕ → ℕ → Claim × ℕ → ℕ
+after account balance (claim, charge) = if is_on account claim.account && is_accepted (λ _. balance) claim then balance - charge else balance
+
+-- the balance of an account at the place behind these claims, each with its charge: the opening less the charges of the accepted claims on it
+abbrev pub place_balance : List ℕ → List (Claim × ℕ) → ℕ → ℕ
+place_balance openings claims account = fold (after account) (slice_index openings account) claims
+
+abbrev pub account_by : Option Flaw → Option ℕ → Option ℕ
+account_by (Some flaw) account = None
+account_by None account = account
+
+-- the claim of a job: that of its account, where it has no flaw
+abbrev pub claim_of : JobView → Claim
+claim_of job = record { account = account_by job.flaw job.account; reserve = reserve job }
+
+-- a job's claim, and its charge where it is accepted
+abbrev pub charged : JobView → Claim × ℕ
+charged job = (claim_of job, charge (job_result job).counts)

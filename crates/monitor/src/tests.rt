@@ -1,0 +1,277 @@
+use crate::top::{Status, run_monitor};
+use batch_io::{MemSink, MemSource, OpenGate};
+use std::alloc::{AllocError, Global};
+use std::test::Fail;
+
+/// How the outside behaves in a run.
+#[derive(Clone, Copy)]
+struct Outside {
+    /// The most bytes that a read or a write handles.
+    piece: usize,
+    /// The number of the read that fails.
+    failing_read: Option<u32>,
+    /// The number of the write that fails.
+    failing_write: Option<u32>,
+    /// How many bytes the source hands out.
+    source_stop: Option<u64>,
+    /// How many bytes the sink takes.
+    sink_stop: u32,
+}
+
+const AMPLE: Outside = Outside {
+    piece: 7,
+    failing_read: None,
+    failing_write: None,
+    source_stop: None,
+    sink_stop: 10_000,
+};
+
+fn call_numbers(alloc: Global, number: Option<u32>) -> Result<Vec<u32>, AllocError> {
+    let mut numbers = Vec::new(alloc);
+    if let Some(number) = number {
+        numbers.push(number)?;
+    }
+    Ok(numbers)
+}
+
+/// What a run answers and writes.
+fn run(
+    alloc: Global,
+    words: &[String],
+    input: &[u8],
+    outside: &Outside,
+) -> Result<(Status, Vec<u8>), AllocError> {
+    let piece = outside.piece.max(1);
+    let mut source = MemSource::new(
+        Vec::from_slice(alloc, input)?,
+        piece,
+        call_numbers(alloc, outside.failing_read)?,
+        outside.source_stop,
+    );
+    let failing = call_numbers(alloc, outside.failing_write)?;
+    let mut sink = MemSink::new(alloc, piece, failing, outside.sink_stop)?;
+    let status = run_monitor(alloc, words, &mut source, &mut sink, &OpenGate);
+    let written = Vec::from_slice(alloc, sink.bytes())?;
+    Ok((status, written))
+}
+
+const SUM: &[u8] = b"%ACCOUNT ADA 500
+%JOB SUM,ADA
+BEGIN WRITE(2 + 2) END.
+%EOJ
+";
+
+/// The same, with no end card and no last line feed.
+const SUM_CUT_SHORT: &[u8] = b"%ACCOUNT ADA 500
+%JOB SUM,ADA
+BEGIN WRITE(2 + 2) END.";
+
+const SUM_LISTING: &[u8] = b"ALGOL W BATCH
+
+JOB 1 SUM ADA
+   1        1  BEGIN WRITE(2 + 2) END.
+OUTPUT
+             4
+ENDED NORMALLY
+CARDS 2 STEPS 2 LINES 1 CHARGE 5
+
+CLOSING BALANCES
+ADA OPENING 500 CHARGES 5 CLOSING 495
+STRAY CARDS 0
+";
+
+const EMPTY_LISTING: &[u8] = b"ALGOL W BATCH
+
+CLOSING BALANCES
+STRAY CARDS 0
+";
+
+const FOUR: &[u8] = b"%ACCOUNT ADA 500
+%JOB SUM,ADA
+BEGIN WRITE(2 + 2) END.
+%JOB ODD,ADA
+BEGIN END.
+%JOB WHO,EVE
+BEGIN WRITE(1) END.
+%JOB BAD,ADA,STEPS=9
+";
+
+const FOUR_LISTING: &[u8] = b"ALGOL W BATCH
+
+JOB 1 SUM ADA
+   1        1  BEGIN WRITE(2 + 2) END.
+OUTPUT
+             4
+ENDED NORMALLY
+CARDS 2 STEPS 2 LINES 1 CHARGE 5
+
+JOB 2 ODD ADA
+   1           BEGIN END.
+DIAGNOSTIC 90 AT 1,1: DECK NOT OF THE PRESENT FORM
+CARDS 2 STEPS 0 LINES 0 CHARGE 2
+
+JOB 3 WHO EVE
+REFUSED 6: ACCOUNT UNKNOWN
+
+JOB 4 ? ?
+REFUSED 3: JOB CARD ILL FORMED
+
+CLOSING BALANCES
+ADA OPENING 500 CHARGES 7 CLOSING 493
+STRAY CARDS 0
+";
+
+/// ADA's balance is the reserve of her job, BOB's is one less.
+const TIE: &[u8] = b"%ACCOUNT ADA 302
+%ACCOUNT BOB 301
+%JOB A,ADA
+BEGIN WRITE(1) END.
+%JOB B,BOB
+BEGIN WRITE(1) END.
+";
+
+const TIE_LISTING: &[u8] = b"ALGOL W BATCH
+
+JOB 1 A ADA
+   1        1  BEGIN WRITE(1) END.
+OUTPUT
+             1
+ENDED NORMALLY
+CARDS 2 STEPS 2 LINES 1 CHARGE 5
+
+JOB 2 B BOB
+REFUSED: RESERVE 302, BALANCE 301
+
+CLOSING BALANCES
+ADA OPENING 302 CHARGES 5 CLOSING 297
+BOB OPENING 301 CHARGES 0 CLOSING 301
+STRAY CARDS 0
+";
+
+/// Stray cards, a card of 81 bytes, a byte that isn't allowed, data, a sum out of range, and blanks at a card's end.
+const FLAWED: &[u8] = b"A NOTE
+%ACCOUNT ADA 0500
+
+%ACCOUNT ADA 7
+%ACCOUNT EVE 1000000000
+%JOB LONG,ADA
+BEGIN WRITE(1) END.                                                             .
+%EOJ
+LEFT OVER
+%EOJ
+
+%JOB BYTE,ADA
+BEGIN WRITE(1) END.\x7f
+%JOB DATA,ADA
+BEGIN WRITE(1) END.
+%DATA
+1
+%JOB RANGE,ADA
+BEGIN WRITE(2147483647 + 1) END.
+%JOB MOST,ADA
+BEGIN WRITE(2147483646 + 0000000001) END.   
+";
+
+const FLAWED_LISTING: &[u8] = b"ALGOL W BATCH
+
+JOB 1 ? ?
+REFUSED 3: JOB CARD ILL FORMED
+
+JOB 2 ? ?
+REFUSED 3: JOB CARD ILL FORMED
+
+JOB 3 ? ?
+REFUSED 3: JOB CARD ILL FORMED
+
+JOB 4 RANGE ADA
+   1           BEGIN WRITE(2147483647 + 1) END.
+DIAGNOSTIC 90 AT 1,1: DECK NOT OF THE PRESENT FORM
+CARDS 2 STEPS 0 LINES 0 CHARGE 2
+
+JOB 5 MOST ADA
+   1        1  BEGIN WRITE(2147483646 + 0000000001) END.
+OUTPUT
+    2147483647
+ENDED NORMALLY
+CARDS 2 STEPS 2 LINES 1 CHARGE 5
+
+CLOSING BALANCES
+ADA OPENING 500 CHARGES 7 CLOSING 493
+STRAY CARDS 5
+";
+
+#[test]
+fn a_batch_has_its_listing(rt: HostRuntime) -> Result<(), Fail> {
+    let cases = [
+        ("nothing", b"".as_slice(), EMPTY_LISTING),
+        ("one sum", SUM, SUM_LISTING),
+        ("one sum cut short", SUM_CUT_SHORT, SUM_LISTING),
+        ("four jobs", FOUR, FOUR_LISTING),
+        ("a tie", TIE, TIE_LISTING),
+        ("flaws and stray cards", FLAWED, FLAWED_LISTING),
+    ];
+    for (name, input, listing) in cases {
+        let (status, written) = run(rt.alloc(), &[], input, &AMPLE)?;
+        assert_eq!(rt; status, Status::Done, "{name}");
+        assert_eq!(rt; written.as_slice(), listing, "{name}");
+    }
+    Ok(())
+}
+
+#[test]
+fn a_fault_leaves_a_prefix(rt: HostRuntime) -> Result<(), Fail> {
+    let stopped_source = Outside {
+        source_stop: Some(30),
+        ..AMPLE
+    };
+    let failing_read = Outside {
+        failing_read: Some(3),
+        ..AMPLE
+    };
+    let stopped_sink = Outside {
+        sink_stop: 20,
+        ..AMPLE
+    };
+    let failing_write = Outside {
+        failing_write: Some(3),
+        ..AMPLE
+    };
+    let cases = [
+        (stopped_source, Status::ReadFault, b"".as_slice()),
+        (failing_read, Status::ReadFault, b""),
+        (stopped_sink, Status::WriteFault, b"ALGOL W BATCH\n\nJOB 1"),
+        (failing_write, Status::WriteFault, b"ALGOL W BATCH\n"),
+    ];
+    for (outside, wanted, prefix) in cases {
+        let (status, written) = run(rt.alloc(), &[], SUM, &outside)?;
+        assert_eq!(rt; status, wanted);
+        assert_eq!(rt; written.as_slice(), prefix);
+    }
+    Ok(())
+}
+
+#[test]
+fn words_are_refused(rt: HostRuntime) -> Result<(), Fail> {
+    let words = vec![in rt.alloc(); String::from_str(rt.alloc(), "--help")?]?;
+    let (status, written) = run(rt.alloc(), words.as_slice(), SUM, &AMPLE)?;
+    assert_eq!(rt; status, Status::BadWords);
+    assert_eq!(rt; written.len(), 0);
+    Ok(())
+}
+
+#[test]
+fn a_batch_that_is_too_large(rt: HostRuntime) -> Result<(), Fail> {
+    let mut input = vec![in rt.alloc(); b'\n'; 4_194_304]?;
+    let wide = Outside {
+        piece: 65_536,
+        ..AMPLE
+    };
+    let (status, written) = run(rt.alloc(), &[], input.as_slice(), &wide)?;
+    assert_eq!(rt; status, Status::Done);
+    assert_eq!(rt; written.as_slice(), EMPTY_LISTING);
+    input.push(b'\n')?;
+    let (status, written) = run(rt.alloc(), &[], input.as_slice(), &wide)?;
+    assert_eq!(rt; status, Status::TooLarge);
+    assert_eq!(rt; written.len(), 0);
+    Ok(())
+}
