@@ -1,5 +1,5 @@
 -- What a job without a flaw gives.
-use Rattle.std.specs.Prelude.{ℕ, List, [], ◌∷◌, ◌++◌, codes, decimal, Option, Some, None}
+use Rattle.std.specs.Prelude.{ℕ, nat_le, if◌then◌else◌, List, [], ◌∷◌, ◌++◌, codes, decimal, Option, Some, None}
 use Rattle.deck_reader.specs.JobView.{JobView}
 use Rattle.deck_reader.specs.declared.charges.Counts.{Counts}
 use Rattle.algolw_meaning.specs.Texts.{right, line, source_line, source_lines, sum_line}
@@ -32,6 +32,10 @@ abbrev pub result_by : Option ℕ → JobView → JobResult
 result_by None job = record { body = diagnosed_body job.deck (counts_of job.cards 0 0); counts = counts_of job.cards 0 0; ending = Diagnosed }
 result_by (Some sum) job = record { body = ran_body (first_card job.deck) sum (counts_of job.cards 2 1); counts = counts_of job.cards 2 1; ending = Normal }
 
--- a deck that writes a sum takes two steps and prints one line; every other one is diagnosed
+-- the sum that a job writes, which takes two steps
+abbrev pub sum_of_job : JobView → Option ℕ
+sum_of_job job = if nat_le 2 job.steps then sum_of_deck job.deck else None
+
+-- a job that writes a sum takes two steps and prints one line; every other one is diagnosed
 abbrev pub job_result : JobView → JobResult
-job_result job = result_by (sum_of_deck job.deck) job
+job_result job = result_by (sum_of_job job) job

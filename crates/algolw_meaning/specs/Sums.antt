@@ -1,8 +1,11 @@
 -- The decks that can be run by now: one card that writes a sum.
-use Rattle.std.specs.Prelude.{ℕ, ◌-◌, ◌+◌, ◌&&◌, ◌==◌, nat_le, bytes_eq, if◌then◌else◌, List, [], ◌∷◌, ◌++◌, length, take, drop, codes, Option, Some, None, slice_index}
+use Rattle.std.specs.Prelude.{ℕ, Bool, ◌-◌, ◌+◌, ◌&&◌, ◌==◌, nat_le, bytes_eq, if◌then◌else◌, List, [], ◌∷◌, ◌++◌, length, take, drop, codes, Option, Some, None, slice_index}
 use Rattle.std.specs.List.{slice_split}
 use Rattle.std.specs.Str.Parse.{digits_value}
-use Rattle.deck_reader.specs.Forms.{begins_with, is_digits}
+use Rattle.deck_reader.specs.Forms.{is_digits}
+
+abbrev pub begins_with : List ℕ → List ℕ → Bool
+begins_with word card = bytes_eq (take (length word) card) word
 
 -- the number of one to ten digits with a blank on either side
 abbrev pub term : List ℕ → Option ℕ

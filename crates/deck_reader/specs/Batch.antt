@@ -1,17 +1,16 @@
 -- The batch that an input is.
-use Rattle.std.specs.Prelude.{ℕ, ◌+◌, ◌-◌, Bool, ◌&&◌, not, List, [], ◌∷◌, nat_lt, if◌then◌else◌, length, take, codes, bytes_eq, Option, Some, None, filter, count_by, position, sum_by, ◌++◌}
-use Rattle.std.specs.List.{list_all, list_any, filter_map, before_first, after_first}
+use Rattle.std.specs.Prelude.{ℕ, ◌+◌, ◌-◌, Bool, ◌&&◌, ◌||◌, not, List, [], ◌∷◌, ◌++◌, nat_lt, nat_le, if◌then◌else◌, length, take, map, codes, bytes_eq, Option, Some, None, unwrap_or, filter, count_by, position, sum_by}
+use Rattle.std.specs.List.{list_any, filter_map, before_first, after_first}
 use Rattle.std.specs.Option.{option_map}
-use Rattle.deck_reader.specs.declared.batch.Flaw.TheVariants.{JobCard, AccountUnknown}
+use Rattle.deck_reader.specs.declared.batch.Flaw.{Flaw}
+use Rattle.deck_reader.specs.declared.batch.Flaw.TheVariants as flaws
 use Rattle.deck_reader.specs.declared.batch.Account.{Account}
 use Rattle.deck_reader.specs.declared.batch.Batch.{Batch}
+use Rattle.deck_reader.specs.declared.forms.JobCard.{JobCard}
 use Rattle.deck_reader.specs.JobView.{JobView}
-use Rattle.deck_reader.specs.Cards.{cards}
-use Rattle.deck_reader.specs.Forms.{is_head, is_data, is_end, is_clean, job_parts, account_parts}
-
--- more bytes than a batch may have
-abbrev pub too_large : List ℕ → Bool
-too_large bytes = nat_lt 4194304 (length bytes)
+use Rattle.deck_reader.specs.Cards.{cleaned, ended, cards}
+use Rattle.deck_reader.specs.Forms.{is_head, is_data, is_end, job_card, account_card}
+use Rattle.deck_reader.specs.CardFlaws.{is_long, is_foul}
 
 -- the account of this name, by its number
 abbrev pub account_of : List Account → List ℕ → Option ℕ
@@ -19,7 +18,7 @@ account_of accounts name = position (λ a. bytes_eq a.name name) accounts
 
 -- the account that a card states, where it has the form
 abbrev pub account_on : List ℕ → Option Account
-account_on card = option_map (λ p. record { name = p.0; opening = p.1 }) (account_parts card)
+account_on card = option_map (λ c. record { name = c.name; opening = c.balance }) (account_card card)
 
 -- those of the accounts whose name no earlier one has
 abbrev pub first_of_each_name : List Account → List Account
@@ -57,26 +56,49 @@ body run = before_first is_end run.behind
 abbrev pub outside : Run → List (List ℕ)
 outside run = after_first is_end run.behind
 
+abbrev pub steps_of : JobCard → ℕ
+steps_of card = unwrap_or card.steps 10000
+
+abbrev pub lines_of : JobCard → ℕ
+lines_of card = unwrap_or card.lines 100
+
+-- 1 to 10,000,000 steps and 1 to 500 lines
+abbrev pub is_in_range : JobCard → Bool
+is_in_range card = (nat_le 1 (steps_of card) && nat_le (steps_of card) 10000000) && (nat_le 1 (lines_of card) && nat_le (lines_of card) 500)
+
 -- a job that can't be read
-abbrev pub unread : ℕ → ℕ → JobView
-unread number count = record { number = number; name = codes "?"; account_name = codes "?"; account = None; deck = []; data_cards = []; steps = 10000; lines = 100; cards = count; flaw = Some JobCard }
+abbrev pub unread : ℕ → ℕ → Flaw → JobView
+unread number count flaw = record { number = number; name = codes "?"; account_name = codes "?"; account = None; deck = []; data_cards = []; steps = 10000; lines = 100; cards = count; flaw = Some flaw }
 
--- a job that can be read, on the account of this number, where it is open
-abbrev pub read : ℕ → List ℕ → List ℕ → List (List ℕ) → Option ℕ → JobView
-read number name account_name deck None = record { number = number; name = name; account_name = account_name; account = None; deck = []; data_cards = []; steps = 10000; lines = 100; cards = length deck + 1; flaw = Some AccountUnknown }
-read number name account_name deck (Some account) = record { number = number; name = name; account_name = account_name; account = Some account; deck = deck; data_cards = []; steps = 10000; lines = 100; cards = length deck + 1; flaw = None }
+-- a job that is flawed though its card can be read
+abbrev pub flawed : ℕ → ℕ → JobCard → Option ℕ → ℕ → ℕ → Flaw → JobView
+flawed number count card account steps lines flaw = record { number = number; name = card.name; account_name = card.account; account = account; deck = []; data_cards = []; steps = steps; lines = lines; cards = count; flaw = Some flaw }
 
-abbrev pub job_by : List Account → ℕ → List (List ℕ) → Option (List ℕ × List ℕ) → JobView
-job_by accounts number deck None = unread number (length deck + 1)
-job_by accounts number deck (Some (name, account_name)) = read number name account_name deck (account_of accounts account_name)
+abbrev pub job_on : ℕ → ℕ → JobCard → Option ℕ → List (List ℕ) → List (List ℕ) → JobView
+job_on number count card None deck data_cards = flawed number count card None (steps_of card) (lines_of card) flaws.AccountUnknown
+job_on number count card (Some account) deck data_cards = record { number = number; name = card.name; account_name = card.account; account = Some account; deck = deck; data_cards = data_cards; steps = steps_of card; lines = lines_of card; cards = count; flaw = None }
 
--- each card is clean, none begins data, and there are at most 2,000 with the head
-abbrev pub is_readable : List ℕ → List (List ℕ) → Bool
-is_readable head deck = list_all is_clean (head ∷ deck) && (not (list_any is_data deck) && nat_lt (length deck) 2000)
+abbrev pub job_by : ℕ → ℕ → Option JobCard → Option ℕ → List (List ℕ) → List (List ℕ) → JobView
+job_by number count None account deck data_cards = unread number count flaws.JobCard
+job_by number count (Some card) account deck data_cards =
+    if is_in_range card then (if nat_lt 2000 count then flawed number count card account (steps_of card) (lines_of card) flaws.TooManyCards else job_on number count card account deck data_cards)
+    else flawed number count card account 10000 100 flaws.NumberOutOfRange
+
+-- the job of these parts, with the least flaw that applies: its number, how many cards it has, whether one is over 80 bytes and
+-- whether one holds a byte that isn't allowed, what its job card states, its account, its deck and its data
+abbrev pub job_from : ℕ → ℕ → Bool → Bool → Option JobCard → Option ℕ → List (List ℕ) → List (List ℕ) → JobView
+job_from number count long foul card account deck data_cards =
+    if long then unread number count flaws.CardTooLong else (if foul then unread number count flaws.ByteNotAllowed else job_by number count card account deck data_cards)
+
+-- the open account of a job card
+abbrev pub account_for : List Account → Option JobCard → Option ℕ
+account_for accounts None = None
+account_for accounts (Some card) = account_of accounts card.account
 
 -- the job of a head and the cards behind it
 abbrev pub job_of : List Account → ℕ → List ℕ → List (List ℕ) → JobView
-job_of accounts number head deck = if is_readable head deck then job_by accounts number deck (job_parts head) else unread number (length deck + 1)
+job_of accounts number head behind =
+    job_from number (length behind + 1) (list_any is_long (head ∷ behind)) (list_any is_foul (head ∷ behind)) (job_card head) (account_for accounts (job_card head)) (before_first is_data behind) (after_first is_data behind)
 
 -- the jobs of these runs, numbered from here
 abbrev pub jobs_of : List Account → ℕ → List Run → List JobView
@@ -87,12 +109,27 @@ jobs_of accounts number (run ∷ runs) = job_of accounts number run.head (body r
 abbrev pub written : List (List ℕ) → ℕ
 written cards = count_by (λ c. nat_lt 0 (length c)) cards
 
--- the batch of these cards; the stray ones are those before the first head that open no account, and those behind a job's end
+-- the stray cards: those before the first head that open no account, and those behind a job's end
+abbrev pub strays : List (List ℕ) → ℕ
+strays cards = (written (before_head cards) - length (opened (before_head cards))) + sum_by (λ run. written (outside run)) (runs cards)
+
+-- the batch of these cards
 abbrev pub batch_of : List (List ℕ) → Batch
 batch_of cards =
-    let front = before_head cards in
-    let accounts = opened front in
-    record { accounts = accounts; jobs = jobs_of accounts 1 (runs cards); stray = written front - length accounts + sum_by (λ run. written (outside run)) (runs cards) }
+    let accounts = opened (before_head cards) in
+    record { accounts = accounts; jobs = jobs_of accounts 1 (runs cards); stray = strays cards }
 
 abbrev pub batch : List ℕ → Batch
 batch bytes = batch_of (cards bytes)
+
+-- more than 4,194,304 bytes or 2,000 heads
+abbrev pub is_over : List ℕ → List (List ℕ) → Bool
+is_over bytes cards = nat_lt 4194304 (length bytes) || nat_lt 2000 (count_by is_head cards)
+
+-- bytes that pass a limit, whatever comes behind them
+abbrev pub passes : List ℕ → Bool
+passes bytes = is_over bytes (map cleaned (ended bytes))
+
+-- a whole input that passes a limit
+abbrev pub too_large : List ℕ → Bool
+too_large bytes = is_over bytes (cards bytes)

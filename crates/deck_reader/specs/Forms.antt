@@ -1,15 +1,31 @@
 -- The forms of the cards, as functions that give a card's parts.
-use Rattle.std.specs.Prelude.{ℕ, ◌+◌, position, Bool, true, false, ◌&&◌, ◌||◌, List, [], ◌∷◌, ◌==◌, nat_le, if◌then◌else◌, length, take, drop, codes, bytes_eq, Option, Some, None}
-use Rattle.std.specs.List.{list_all}
-use Rattle.std.specs.Option.{option_map}
+use Rattle.std.specs.Prelude.{ℕ, ◌+◌, ◌-◌, ◌^◌, min, position, Bool, true, false, ◌&&◌, ◌||◌, List, [], ◌∷◌, ◌==◌, nat_le, if◌then◌else◌, length, take, drop, map, codes, bytes_eq, Option, Some, None}
+use Rattle.std.specs.List.{list_all, slice_split, prefix_len}
+use Rattle.std.specs.Option.{option_map, option_or, option_zip}
 use Rattle.std.specs.Str.Parse.{digits_value}
+use Rattle.deck_reader.specs.Cards.{trimmed}
+use Rattle.deck_reader.specs.declared.forms.AccountCard.{AccountCard}
+use Rattle.deck_reader.specs.declared.forms.JobCard.{JobCard}
 
--- a capital letter
+-- a small letter
+abbrev pub is_small : ℕ → Bool
+is_small c = nat_le 97 c && nat_le c 122
+
+-- a letter, in either case
 abbrev pub is_letter : ℕ → Bool
-is_letter c = nat_le 65 c && nat_le c 90
+is_letter c = nat_le 65 c && nat_le c 90 || is_small c
 
+-- a digit
 abbrev pub is_digit : ℕ → Bool
 is_digit c = nat_le 48 c && nat_le c 57
+
+-- a small letter as its capital, and any other byte as it is
+abbrev pub capital : ℕ → ℕ
+capital c = if is_small c then c - 32 else c
+
+-- in capitals
+abbrev pub folded : List ℕ → List ℕ
+folded bytes = map capital bytes
 
 -- a letter, and at most 7 more letters or digits
 abbrev pub is_name : List ℕ → Bool
@@ -21,17 +37,18 @@ abbrev pub is_digits : List ℕ → Bool
 is_digits [] = false
 is_digits (c ∷ cs) = list_all is_digit (c ∷ cs)
 
-abbrev pub begins_with : List ℕ → List ℕ → Bool
-begins_with word card = bytes_eq (take (length word) card) word
-
 -- nothing, or a blank first
 abbrev pub ends_a_word : List ℕ → Bool
 ends_a_word [] = true
 ends_a_word (c ∷ cs) = c == 32
 
--- the word in column 1, and then a blank or the card's end
+-- the word in column 1, in either case of letters, and then a blank or the card's end
 abbrev pub is_control : List ℕ → List ℕ → Bool
-is_control word card = begins_with word card && ends_a_word (drop (length word) card)
+is_control word card = bytes_eq (folded (take (length word) card)) word && ends_a_word (drop (length word) card)
+
+-- a card that opens an account, where it has the form
+abbrev pub is_account : List ℕ → Bool
+is_account card = is_control (codes "%ACCOUNT") card
 
 -- a card that begins a job
 abbrev pub is_head : List ℕ → Bool
@@ -49,33 +66,105 @@ is_end card = is_control (codes "%EOJ") card
 abbrev pub parted : ℕ → List ℕ → Option (List ℕ × List ℕ)
 parted byte bytes = option_map (λ at. (take at bytes, drop (at + 1) bytes)) (position (λ b. b == byte) bytes)
 
-abbrev pub both_names : Option (List ℕ × List ℕ) → Option (List ℕ × List ℕ)
-both_names None = None
-both_names (Some (name, account)) = if is_name name && is_name account then Some (name, account) else None
+-- without the blanks in front
+abbrev pub behind_blanks : List ℕ → List ℕ
+behind_blanks bytes = drop (prefix_len (λ b. b == 32) bytes) bytes
 
--- a job's name and its account's: `%JOB`, a blank, a name, a comma, a name
-abbrev pub job_parts : List ℕ → Option (List ℕ × List ℕ)
-job_parts card = if begins_with (codes "%JOB ") card then both_names (parted 44 (drop 5 card)) else None
+-- without the blanks on either side
+abbrev pub stripped : List ℕ → List ℕ
+stripped bytes = trimmed (behind_blanks bytes)
+
+-- the name in capitals, where these bytes are one
+abbrev pub name_of : List ℕ → Option (List ℕ)
+name_of bytes = if is_name bytes then Some (folded bytes) else None
+
+-- the number that digits stand for
+abbrev pub number_of : List ℕ → Option ℕ
+number_of digits = if is_digits digits then Some (digits_value 10 digits) else None
 
 -- the number that digits stand for, where it is at most the largest balance
 abbrev pub balance_of : List ℕ → Option ℕ
 balance_of digits = if is_digits digits && nat_le (digits_value 10 digits) 999999999 then Some (digits_value 10 digits) else None
 
-abbrev pub name_with : List ℕ → Option ℕ → Option (List ℕ × ℕ)
-name_with name None = None
-name_with name (Some balance) = if is_name name then Some (name, balance) else None
+-- an account card with this name and this balance
+abbrev pub account_with : Option (List ℕ) → Option ℕ → Option AccountCard
+account_with None balance = None
+account_with (Some name) None = None
+account_with (Some name) (Some balance) = Some (record { name = name; balance = balance })
 
-abbrev pub name_and_balance : Option (List ℕ × List ℕ) → Option (List ℕ × ℕ)
+-- the name and the balance of what is parted at a blank
+abbrev pub name_and_balance : Option (List ℕ × List ℕ) → Option AccountCard
 name_and_balance None = None
-name_and_balance (Some (name, digits)) = name_with name (balance_of digits)
+name_and_balance (Some (name, rest)) = account_with (name_of name) (balance_of (behind_blanks rest))
 
--- an account's name and opening balance: `%ACCOUNT`, a blank, a name, a blank, digits
-abbrev pub account_parts : List ℕ → Option (List ℕ × ℕ)
-account_parts card = if begins_with (codes "%ACCOUNT ") card then name_and_balance (parted 32 (drop 9 card)) else None
+-- an account's name and opening balance: the control word, blanks, a name, blanks, digits
+abbrev pub account_card : List ℕ → Option AccountCard
+account_card card = if is_account card then name_and_balance (parted 32 (behind_blanks (drop 8 card))) else None
 
+-- the number that stands behind this word and an equals sign, with blanks round both
+abbrev pub number_behind : List ℕ → Option (List ℕ × List ℕ) → Option ℕ
+number_behind word None = None
+number_behind word (Some (front, digits)) =
+    if bytes_eq (folded (stripped front)) word then number_of (stripped digits) else None
+
+-- the number of a setting of steps
+abbrev pub steps_of : List ℕ → Option ℕ
+steps_of field = number_behind (codes "STEPS") (parted 61 field)
+
+-- the number of a setting of lines
+abbrev pub lines_of : List ℕ → Option ℕ
+lines_of field = number_behind (codes "LINES") (parted 61 field)
+
+-- what one setting gives for steps and for lines, from its number as either
+abbrev pub one_setting : Option ℕ → Option ℕ → Option (Option ℕ × Option ℕ)
+one_setting None None = None
+one_setting None (Some lines) = Some (None, Some lines)
+one_setting (Some steps) lines = Some (Some steps, None)
+
+-- what two settings give
+abbrev pub both_given : Option (ℕ × ℕ) → Option (Option ℕ × Option ℕ)
+both_given numbers = option_map (λ p. (Some p.0, Some p.1)) numbers
+
+-- what the settings of a job card give for steps and for lines, in either order and each at most once
+abbrev pub settings_of : List (List ℕ) → Option (Option ℕ × Option ℕ)
+settings_of [] = Some (None, None)
+settings_of (one ∷ []) = one_setting (steps_of one) (lines_of one)
+settings_of (one ∷ two ∷ []) = both_given (option_or (option_zip (steps_of one) (lines_of two)) (option_zip (steps_of two) (lines_of one)))
+settings_of (one ∷ two ∷ three ∷ more) = None
+
+-- a job card with these names, and what it gives for steps and for lines
+abbrev pub job_with : Option (List ℕ) → Option (List ℕ) → Option (Option ℕ × Option ℕ) → Option JobCard
+job_with None account settings = None
+job_with (Some name) None settings = None
+job_with (Some name) (Some account) None = None
+job_with (Some name) (Some account) (Some (steps, lines)) = Some (record { name = name; account = account; steps = steps; lines = lines })
+
+-- the fields of a job card: a name, an account's name and the settings
+abbrev pub job_of_fields : List (List ℕ) → Option JobCard
+job_of_fields [] = None
+job_of_fields (name ∷ []) = None
+job_of_fields (name ∷ account ∷ settings) = job_with (name_of (stripped name)) (name_of (stripped account)) (settings_of settings)
+
+-- the fields with commas between them
+abbrev pub fields : List ℕ → List (List ℕ)
+fields bytes = slice_split (λ b. b == 44) bytes
+
+-- the parts of a job card: the control word, and then fields
+abbrev pub job_card : List ℕ → Option JobCard
+job_card card = if is_head card then job_of_fields (fields (drop 4 card)) else None
+
+-- a number that stops at the largest of 32 bits, as the code counts
+abbrev pub in_32_bits : ℕ → ℕ
+in_32_bits n = min (2 ^ 32 - 1) n
+
+-- steps and lines that stop there
+abbrev pub counted_settings : Option ℕ × Option ℕ → Option ℕ × Option ℕ
+counted_settings (steps, lines) = (option_map in_32_bits steps, option_map in_32_bits lines)
+
+-- a job card with numbers that stop at the largest of 32 bits
+abbrev pub counted : JobCard → JobCard
+counted job = record job { steps = option_map in_32_bits job.steps; lines = option_map in_32_bits job.lines }
+
+-- a byte that may stand on a card
 abbrev pub is_allowed : ℕ → Bool
 is_allowed b = nat_le 32 b && nat_le b 126
-
--- at most 80 bytes, each from 32 to 126
-abbrev pub is_clean : List ℕ → Bool
-is_clean card = nat_le (length card) 80 && list_all is_allowed card

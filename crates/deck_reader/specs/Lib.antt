@@ -1,8 +1,11 @@
 pub mod Short
 pub mod Cards
+pub mod CardLaws
 pub mod Forms
 pub mod CardForms
+pub mod CardFlaws
 pub mod JobView
 pub mod Batch
 pub mod Charges
+pub mod Reading
 pub mod Fed

@@ -1,13 +1,11 @@
-ghost use Rattle.std.specs.Prelude.{◌≡◌, ◌≤◌, ◌<◌, ◌++◌, Some, IfOk, IfSome, OnOk, OnErr, length, position, bytes_eq, MatchOption};
+ghost use Rattle.std.specs.Prelude.{◌≡◌, ◌≤◌, ◌<◌, ◌+◌, if◌then◌else◌, IfOk, IfSome, IsSome, IsTrue, OnOk, length, bytes_eq};
 ghost use Rattle.std.specs.List.{list_any};
-ghost use Rattle.deck_reader.specs.Batch.{account_of, account_on, opened, with_account};
+ghost use Rattle.deck_reader.specs.Batch.{account_of, account_on, with_account};
 
 use crate::batch::Account;
-use crate::cuts::RawCard;
 use crate::forms;
 use crate::listed::Listed;
-use crate::short::Name;
-use std::alloc::{AllocError, Global};
+use std::alloc::AllocError;
 
 /// The most accounts of a batch.
 const MOST_ACCOUNTS: usize = 500;
@@ -42,32 +40,24 @@ fn has_name(account: &Account, name: &[u8]) -> bool
     account.name.as_slice() == name
 }
 
-/// Opens the account that a card states, where there is one, its name is new, and there is room.
-fn open(accounts: &mut Listed<Account>, card: &[u8]) -> Result<(), AllocError>
+/// Opens the account that a card states, where there is one, its name is new, and there is room. The answer is whether an
+/// account was opened.
+pub fn open(accounts: &mut Listed<Account>, card: &[u8]) -> Result<bool, AllocError>
     requires { length accounts.old ≤ 500 }
     ensures ok { OnOk result (accounts.new ≡ with_account accounts.old (account_on card.now)) }
+    ensures one { IfOk result (λ opened. length accounts.new ≡ length accounts.old + (if opened then 1 else 0)) }
+    ensures stated { IfOk result (λ opened. IsTrue opened → IsSome (account_on card.now)) }
     ensures few { length accounts.new ≤ 500 }
 {
-    let Some((name, opening)) = forms::account_parts(card) else {
-        return Ok(());
+    let Some(stated) = forms::account_card(card) else {
+        return Ok(false);
     };
-    if accounts.len() < MOST_ACCOUNTS && !is_open(accounts.as_slice(), name) {
-        accounts.push(Account {
-            name: Name::from_slice(name),
-            opening,
-        })?;
+    if accounts.len() >= MOST_ACCOUNTS || is_open(accounts.as_slice(), stated.name.as_slice()) {
+        return Ok(false);
     }
-    Ok(())
-}
-
-/// The accounts that these cards open.
-pub fn open_all(alloc: Global, cards: &[RawCard<'_>]) -> Result<Listed<Account>, AllocError>
-    ensures ok { IfOk result (λ a. a ≡ opened cards.now) }
-    ensures few { IfOk result (λ a. length a ≤ 500) }
-{
-    let mut accounts = Listed::new(alloc);
-    for card in cards {
-        open(&mut accounts, card.bytes())?;
-    }
-    Ok(accounts)
+    accounts.push(Account {
+        name: stated.name,
+        opening: stated.balance,
+    })?;
+    Ok(true)
 }

@@ -22,7 +22,7 @@ pub enum Flaw {
 /// An account, as its card opened it.
 #[derive(Drop)]
 pub struct Account {
-    /// A capital letter and at most 7 more capitals or digits.
+    /// A capital letter and at most 7 more capitals or digits, whatever the card's case of letters.
     pub name: Name,
     /// The opening balance, at most 999,999,999.
     pub opening: u64,
@@ -55,9 +55,9 @@ pub struct Job {
 
 impl Model for Job {
     ghost use Rattle.deck_reader.specs.JobView.{JobView};
-    ghost use Rattle.deck_reader.specs.Forms.{is_clean};
-    ghost use Rattle.std.specs.Prelude.{ℕ, ◌≡◌, ◌≤◌, ◌<◌, ◌+◌, true, length, IfNone, IsSome};
-    ghost use Rattle.std.specs.List.{list_all};
+    ghost use Rattle.deck_reader.specs.CardFlaws.{is_long, is_foul};
+    ghost use Rattle.std.specs.Prelude.{ℕ, ◌≡◌, ◌≤◌, ◌<◌, ◌+◌, false, length, IfNone, IsSome};
+    ghost use Rattle.std.specs.List.{list_any};
 
     ghost Value = { JobView };
 
@@ -76,7 +76,8 @@ impl Model for Job {
 
     ghost invariant = { λ j. (1 ≤ j.steps) × (j.steps ≤ 10000000) × (1 ≤ j.lines) × (j.lines ≤ 500)
         × IfNone j.flaw (IsSome j.account × (j.cards ≤ 2000) × (length j.deck + length j.data_cards < j.cards)
-        × (list_all is_clean j.deck ≡ true) × (list_all is_clean j.data_cards ≡ true)) };
+        × (list_any is_long j.deck ≡ false) × (list_any is_foul j.deck ≡ false)
+        × (list_any is_long j.data_cards ≡ false) × (list_any is_foul j.data_cards ≡ false)) };
 }
 
 /// What a whole input is.

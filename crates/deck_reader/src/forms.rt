@@ -1,136 +1,367 @@
-ghost use Rattle.std.specs.Prelude.{◌≡◌, ◌||◌, None, Some, MatchOption};
-ghost use Rattle.std.specs.List.{list_all};
-ghost use Rattle.deck_reader.specs.Forms.{is_letter, is_digit, is_name, is_control, is_head, is_data, is_end, is_allowed, is_clean, job_parts, balance_of, account_parts};
+ghost use Rattle.std.specs.Prelude.{◌≡◌, ◌≤◌, ◌==◌, [], ◌∷◌, true, false, ◌||◌, None, Some, length, drop, bytes_eq, MatchOption};
+ghost use Rattle.std.specs.List.{list_all, prefix_len};
+ghost use Rattle.std.specs.Option.{option_map};
+ghost use Rattle.deck_reader.specs.Forms.{is_letter, is_digit, is_name, folded, ends_a_word, is_control, is_head, is_data, is_end, is_allowed, behind_blanks, stripped, number_of, name_of, balance_of, account_card, in_32_bits, number_behind, steps_of, lines_of, one_setting, settings_of, fields, job_card, counted, counted_settings, parted};
 
-use crate::cuts::split_once;
+use crate::bytes::{split_once, without_blanks};
+use crate::short::{Name, Short};
 
-/// The most bytes of a job's card.
-const CARD_BYTES: usize = 80;
+/// The control word of an account card.
+const ACCOUNT: &[u8] = b"%ACCOUNT";
+
+/// The control word of the card that begins a job.
+const HEAD: &[u8] = b"%JOB";
+
+/// The control word of the card that begins a job's data.
+const DATA: &[u8] = b"%DATA";
+
+/// The control word of the card that ends a job.
+const END: &[u8] = b"%EOJ";
+
+/// The setting that limits a job's steps.
+const STEPS: &[u8] = b"STEPS";
+
+/// The setting that limits a job's lines.
+const LINES: &[u8] = b"LINES";
+
+/// The most bytes of a name.
+const NAME_BYTES: usize = 8;
 
 /// The largest opening balance.
-const LARGEST_BALANCE: u64 = 999_999_999;
+const LARGEST_BALANCE: u32 = 999_999_999;
 
-fn is_letter(byte: u8) -> bool
-    ensures { result ≡ is_letter byte }
-{
-    byte.is_ascii_uppercase()
+/// What an account card states.
+#[derive(Clone, Copy)]
+pub struct AccountCard {
+    /// The account's name, in capitals.
+    pub name: Name,
+    /// The balance that it opens with.
+    pub balance: u64,
 }
 
-fn is_digit(byte: u8) -> bool
-    ensures { result ≡ is_digit byte }
-{
-    byte >= b'0' && byte <= b'9'
+/// What a job card states. A number is `None` where the card doesn't give it.
+#[derive(Clone, Copy)]
+pub struct JobCard {
+    /// The job's name, in capitals.
+    pub name: Name,
+    /// The name of the account that pays for the job, in capitals.
+    pub account: Name,
+    /// The most steps that the job may take.
+    pub steps: Option<u32>,
+    /// The most lines that the job may print.
+    pub lines: Option<u32>,
 }
 
-/// Whether this is a capital letter and at most 7 more capitals or digits.
-fn is_name(bytes: &[u8]) -> bool
-    ensures { result ≡ is_name bytes.now }
-{
-    match bytes {
-        [] => false,
-        [first, rest @ ..] => is_letter(*first) && rest.len() <= 7 && all_alphanumeric(rest),
-    }
-}
-
-fn all_alphanumeric(bytes: &[u8]) -> bool
-    ensures { result ≡ list_all (λ d. is_letter d || is_digit d) bytes.now }
-{
-    bytes.iter().all(|b| is_letter(*b) || is_digit(*b))
-}
-
-fn is_allowed(byte: u8) -> bool
+/// Whether the byte may stand on a card: a blank, or a character that prints.
+pub fn is_allowed(byte: u8) -> bool
     ensures { result ≡ is_allowed byte }
 {
-    byte >= 32 && byte <= 126
-}
-
-fn all_allowed(bytes: &[u8]) -> bool
-    ensures { result ≡ list_all is_allowed bytes.now }
-{
-    bytes.iter().all(|b| is_allowed(*b))
-}
-
-/// The number that digits stand for, where it is at most the largest balance.
-fn balance_of(digits: &[u8]) -> Option<u64>
-    ensures { result ≡ balance_of digits.now }
-{
-    if digits.is_empty() {
-        return None;
-    }
-    let mut value = 0;
-    for digit in digits {
-        if !is_digit(*digit) {
-            return None;
-        }
-        value = 10 * value + u64::from(*digit - b'0');
-        if value > LARGEST_BALANCE {
-            return None;
-        }
-    }
-    Some(value)
-}
-
-fn is_control(word: &[u8], card: &[u8]) -> bool
-    ensures { result ≡ is_control word.now card.now }
-{
-    match card.strip_prefix(word) {
-        None => false,
-        Some([]) => true,
-        Some([next, ..]) => *next == b' ',
-    }
+    (b' '..=b'~').contains(&byte)
 }
 
 /// Whether the card begins a job.
 pub fn is_head(card: &[u8]) -> bool
     ensures { result ≡ is_head card.now }
 {
-    is_control(b"%JOB", card)
+    behind_word(card, HEAD).is_some()
 }
 
 /// Whether the card begins a job's data.
 pub fn is_data(card: &[u8]) -> bool
     ensures { result ≡ is_data card.now }
 {
-    is_control(b"%DATA", card)
+    behind_word(card, DATA).is_some()
 }
 
 /// Whether the card ends a job.
 pub fn is_end(card: &[u8]) -> bool
     ensures { result ≡ is_end card.now }
 {
-    is_control(b"%EOJ", card)
+    behind_word(card, END).is_some()
 }
 
-/// Whether the card has at most 80 bytes, each from 32 to 126.
-pub fn is_clean(card: &[u8]) -> bool
-    ensures { result ≡ is_clean card.now }
+/// What an account card states, where the card has the form of one.
+pub fn account_card(card: &[u8]) -> Option<AccountCard>
+    ensures { result ≡ account_card card.now }
 {
-    card.len() <= CARD_BYTES && all_allowed(card)
+    let (name, digits) = split_once(behind_blanks(behind_word(card, ACCOUNT)?), b' ')?;
+    Some(AccountCard {
+        balance: balance_of(behind_blanks(digits))?,
+        name: name_of(name)?,
+    })
 }
 
-/// A job's name and its account's, where the card has the form of a job card.
-pub fn job_parts(card: &[u8]) -> Option<(&[u8], &[u8])>
-    ensures { MatchOption result (job_parts card.now ≡ None) (λ p. job_parts card.now ≡ Some (p.0.now, p.1.now)) }
+/// What a job card states, where the card has the form of one.
+/// A number past the largest `u32` is given as that.
+pub fn job_card(card: &[u8]) -> Option<JobCard>
+    ensures { result ≡ option_map counted (job_card card.now) }
 {
-    let parts = card.strip_prefix(b"%JOB ")?;
-    let (name, account) = split_once(parts, b',')?;
-    if is_name(name) && is_name(account) {
-        Some((name, account))
+    let (name, rest) = next_field(behind_word(card, HEAD)?);
+    let (account, settings) = next_field(rest?);
+    let (steps, lines) = settings_of(settings)?;
+    Some(JobCard {
+        name: name_of(stripped(name))?,
+        account: name_of(stripped(account))?,
+        steps,
+        lines,
+    })
+}
+
+/// What stands behind a control word in column 1, which a blank or the card's end follows.
+fn behind_word<'a>(card: &'a [u8], word: &[u8]) -> Option<&'a [u8]>
+    requires { folded word.now ≡ word.now }
+    ensures { MatchOption result (is_control word.now card.now ≡ false) (λ rest. (is_control word.now card.now ≡ true) × (rest.now ≡ drop (length word.now) card.now)) }
+{
+    let (front, rest) = card.split_at_checked(word.len())?;
+    if is_word(front, word) && ends_a_word(rest) {
+        Some(rest)
     } else {
         None
     }
 }
 
-/// An account's name and opening balance, where the card has the form of an account card.
-pub fn account_parts(card: &[u8]) -> Option<(&[u8], u64)>
-    ensures { MatchOption result (account_parts card.now ≡ None) (λ p. account_parts card.now ≡ Some (p.0.now, p.1)) }
+/// Whether this is the word, which is in capitals, in either case of letters.
+fn is_word(text: &[u8], word: &[u8]) -> bool
+    requires { folded word.now ≡ word.now }
+    ensures { result ≡ bytes_eq (folded text.now) word.now }
 {
-    let parts = card.strip_prefix(b"%ACCOUNT ")?;
-    let (name, digits) = split_once(parts, b' ')?;
-    let balance = balance_of(digits)?;
-    if is_name(name) {
-        Some((name, balance))
+    text.eq_ignore_ascii_case(word)
+}
+
+/// Whether a word that stands before this ends there.
+fn ends_a_word(rest: &[u8]) -> bool
+    ensures { result ≡ ends_a_word rest.now }
+{
+    matches!(rest, [] | [b' ', ..])
+}
+
+/// The bytes without the blanks in front.
+fn behind_blanks(bytes: &[u8]) -> &[u8]
+    ensures { result.now ≡ behind_blanks bytes.now }
+{
+    &bytes[leading_blanks(bytes)..]
+}
+
+fn leading_blanks(bytes: &[u8]) -> usize
+    ensures count { result ≡ prefix_len (λ b. b == 32) bytes.now }
+    ensures within { result ≤ length bytes.now }
+{
+    bytes.iter().take_while(|b| **b == b' ').count()
+}
+
+/// The bytes without the blanks on either side.
+fn stripped(bytes: &[u8]) -> &[u8]
+    ensures { result.now ≡ stripped bytes.now }
+{
+    without_blanks(behind_blanks(bytes))
+}
+
+/// The name in capitals, where these bytes are one.
+fn name_of(bytes: &[u8]) -> Option<Name>
+    ensures { result ≡ name_of bytes.now }
+{
+    if !is_name(bytes) {
+        return None;
+    }
+    let mut capitals = [0; NAME_BYTES];
+    let name = &mut capitals[..bytes.len()];
+    name.copy_from_slice(bytes);
+    name.make_ascii_uppercase();
+    Some(Short::from_slice(name))
+}
+
+/// Whether this is a letter and at most 7 more letters or digits.
+fn is_name(bytes: &[u8]) -> bool
+    ensures { result ≡ is_name bytes.now }
+{
+    match bytes {
+        [] => false,
+        [first, rest @ ..] => {
+            first.is_ascii_alphabetic() && rest.len() < NAME_BYTES && are_alphanumeric(rest)
+        }
+    }
+}
+
+fn are_alphanumeric(bytes: &[u8]) -> bool
+    ensures { result ≡ list_all (λ d. is_letter d || is_digit d) bytes.now }
+{
+    bytes.iter().all(|b| b.is_ascii_alphanumeric())
+}
+
+/// The number that digits stand for. A number past the largest `u32` is given as that.
+fn number_of(digits: &[u8]) -> Option<u32>
+    ensures { result ≡ option_map in_32_bits (number_of digits.now) }
+{
+    if digits.is_empty() {
+        return None;
+    }
+    let mut value = 0u32;
+    for digit in digits {
+        if !digit.is_ascii_digit() {
+            return None;
+        }
+        value = value
+            .saturating_mul(10)
+            .saturating_add(u32::from(*digit - b'0'));
+    }
+    Some(value)
+}
+
+/// The number that digits stand for, where it is at most the largest balance.
+fn balance_of(digits: &[u8]) -> Option<u64>
+    ensures { result ≡ balance_of digits.now }
+{
+    let balance = number_of(digits)?;
+    if balance <= LARGEST_BALANCE {
+        Some(u64::from(balance))
     } else {
         None
+    }
+}
+
+/// The field before the first comma, and what stands behind the comma.
+fn next_field(bytes: &[u8]) -> (&[u8], Option<&[u8]>)
+    ensures { MatchOption result.1 (fields bytes.now ≡ result.0.now ∷ []) (λ rest. fields bytes.now ≡ result.0.now ∷ fields rest.now) }
+{
+    match split_once(bytes, b',') {
+        None => (bytes, None),
+        Some((field, rest)) => (field, Some(rest)),
+    }
+}
+
+/// The steps and the lines that settings give, in either order and each at most once.
+fn settings_of(settings: Option<&[u8]>) -> Option<(Option<u32>, Option<u32>)>
+    ensures { MatchOption settings.entry (result ≡ Some (None, None)) (λ given. result ≡ option_map counted_settings (settings_of (fields given.now))) }
+{
+    let Some(settings) = settings else {
+        return Some((None, None));
+    };
+    match split_once(settings, b',') {
+        None => one_setting(settings),
+        Some((one, two)) => {
+            // A third setting would stand in the second, which is none with a comma in it.
+            let (steps, lines) = steps_of(one)
+                .zip(lines_of(two))
+                .or(steps_of(two).zip(lines_of(one)))?;
+            Some((Some(steps), Some(lines)))
+        }
+    }
+}
+
+fn one_setting(setting: &[u8]) -> Option<(Option<u32>, Option<u32>)>
+    ensures { result ≡ option_map counted_settings (one_setting (steps_of setting.now) (lines_of setting.now)) }
+{
+    match (steps_of(setting), lines_of(setting)) {
+        (None, None) => None,
+        (None, Some(lines)) => Some((None, Some(lines))),
+        (Some(steps), _) => Some((Some(steps), None)),
+    }
+}
+
+fn steps_of(setting: &[u8]) -> Option<u32>
+    ensures { result ≡ option_map in_32_bits (steps_of setting.now) }
+{
+    number_behind(setting, STEPS)
+}
+
+fn lines_of(setting: &[u8]) -> Option<u32>
+    ensures { result ≡ option_map in_32_bits (lines_of setting.now) }
+{
+    number_behind(setting, LINES)
+}
+
+/// The number that stands behind this word and an equals sign.
+fn number_behind(setting: &[u8], word: &[u8]) -> Option<u32>
+    requires { folded word.now ≡ word.now }
+    ensures { result ≡ option_map in_32_bits (number_behind word.now (parted 61 setting.now)) }
+{
+    let (front, digits) = split_once(setting, b'=')?;
+    if is_word(stripped(front), word) {
+        number_of(stripped(digits))
+    } else {
+        None
+    }
+}
+
+#[cfg(test)]
+mod tests {
+    use super::*;
+    use std::process::Abort;
+
+    /// A job card's name and account, each in capitals, with its steps and lines.
+    type Parts<'a> = (&'a [u8], &'a [u8], Option<u32>, Option<u32>);
+
+    fn check_job(rt: &impl Abort, card: &[u8], expected: Option<Parts<'_>>) {
+        match (job_card(card), expected) {
+            (None, None) => {}
+            (Some(job), Some((name, account, steps, lines))) => {
+                assert_eq!(rt; job.name.as_slice(), name);
+                assert_eq!(rt; job.account.as_slice(), account);
+                assert_eq!(rt; job.steps, steps);
+                assert_eq!(rt; job.lines, lines);
+            }
+            _ => panic!(rt; "{card:?}"),
+        }
+    }
+
+    fn check_account(rt: &impl Abort, card: &[u8], expected: Option<(&[u8], u64)>) {
+        match (account_card(card), expected) {
+            (None, None) => {}
+            (Some(account), Some((name, balance))) => {
+                assert_eq!(rt; account.name.as_slice(), name);
+                assert_eq!(rt; account.balance, balance);
+            }
+            _ => panic!(rt; "{card:?}"),
+        }
+    }
+
+    #[test]
+    fn job_cards(rt: HostRuntime) {
+        let most = Some(u32::MAX);
+        let ada = Some((b"X".as_slice(), b"ADA".as_slice(), Some(20), Some(7)));
+        check_job(&rt, b"%job  x , ada , lines = 7 , steps = 0020", ada);
+        check_job(&rt, b"%JOB X,ADA,STEPS=20,LINES=7", ada);
+        check_job(
+            &rt,
+            b"%JOB A,EVE,STEPS=10000001",
+            Some((b"A", b"EVE", Some(10_000_001), None)),
+        );
+        check_job(
+            &rt,
+            b"%JOB A,B,LINES=9999999999999999999999999999999999999999",
+            Some((b"A", b"B", None, most)),
+        );
+        check_job(
+            &rt,
+            b"%JOB A,B,STEPS=4294967296",
+            Some((b"A", b"B", most, None)),
+        );
+        check_job(
+            &rt,
+            b"%JOB ABCDEFG8,B ",
+            Some((b"ABCDEFG8", b"B", None, None)),
+        );
+        check_job(&rt, b"%JOB ABCDEFGH9,B", None);
+        check_job(&rt, b"%JOB A,B,STEPS=1,STEPS=2", None);
+        check_job(&rt, b"%JOB A,B,STEPS=1,LINES=2,STEPS=1", None);
+        check_job(&rt, b"%JOB A,B,STEPS=", None);
+        check_job(&rt, b"%JOB A,B,STEPS", None);
+        check_job(&rt, b"%JOB A", None);
+        check_job(&rt, b"%JOB A,B,", None);
+        check_job(&rt, b"%JOBX A,B", None);
+    }
+
+    #[test]
+    fn account_cards(rt: HostRuntime) {
+        check_account(&rt, b"%ACCOUNT ada 0500", Some((b"ADA", 500)));
+        check_account(
+            &rt,
+            b"%account  Ada  999999999",
+            Some((b"ADA", 999_999_999)),
+        );
+        check_account(&rt, b"%ACCOUNT ADA 1000000000", None);
+        check_account(&rt, b"%ACCOUNT ADA 5 5", None);
+        check_account(&rt, b"%ACCOUNT ADA", None);
+        check_account(&rt, b"%ACCOUNTS ADA 5", None);
     }
 }

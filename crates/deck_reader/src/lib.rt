@@ -3,19 +3,21 @@
 
 mod accounts;
 mod batch;
+mod bytes;
 mod charges;
-mod cuts;
+mod cleaning;
 mod forms;
-mod jobs;
 mod laws;
 mod listed;
+mod open_job;
 mod reader;
+mod reading;
 mod short;
 
 pub use batch::{Account, Batch, Flaw, Job};
+pub use bytes::{split_once, without_blanks};
 pub use charges::{Counts, charge_of, reserve_of};
-pub use cuts::{split_once, without_blanks};
-pub use laws::{account_card_by_parts, job_card_by_parts};
+pub use laws::{account_card_by_parts, job_card_by_parts, pieces_joined};
 pub use listed::Listed;
 pub use reader::{FeedError, Reader};
 pub use short::{Card, Name, Short};

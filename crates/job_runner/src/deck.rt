@@ -2,13 +2,16 @@ ghost use Rattle.std.specs.Prelude.{◌≡◌, ◌≤◌, ◌<◌, ◌^◌, ◌�
 ghost use Rattle.std.specs.Str.Parse.{digits_value};
 ghost use Rattle.deck_reader.specs.Forms.{is_digits};
 ghost use Rattle.algolw_meaning.specs.Sums.{term, sum_of_text, sum_of_card, sum_of_deck};
-ghost use Rattle.algolw_meaning.specs.Meaning.{first_card};
+ghost use Rattle.algolw_meaning.specs.Meaning.{first_card, sum_of_job};
 
-use deck_reader::{Card, split_once};
+use deck_reader::{Card, Job, split_once};
 use std::alloc::{AllocError, Global};
 
 /// The largest INTEGER.
 const LARGEST: u64 = 2_147_483_647;
+
+/// The steps that a job takes which writes a sum.
+pub const SUM_STEPS: u32 = 2;
 
 /// The most digits of a number.
 const MOST_DIGITS: usize = 10;
@@ -89,7 +92,7 @@ fn sum_of_card(alloc: Global, card: &[u8]) -> Result<Option<u64>, AllocError>
 }
 
 /// The sum that a deck writes and its card, where the deck has the form.
-pub fn sum_of_deck(alloc: Global, deck: &[Card]) -> Result<Option<(u64, &[u8])>, AllocError>
+fn sum_of_deck(alloc: Global, deck: &[Card]) -> Result<Option<(u64, &[u8])>, AllocError>
     ensures { IfOk result (λ s. MatchOption s (sum_of_deck deck.now ≡ None) (λ p. (sum_of_deck deck.now ≡ Some p.0) × (p.1.now ≡ first_card deck.now))) }
 {
     match deck {
@@ -99,4 +102,14 @@ pub fn sum_of_deck(alloc: Global, deck: &[Card]) -> Result<Option<(u64, &[u8])>,
         },
         _ => Ok(None),
     }
+}
+
+/// The sum that a job writes and its card, where its deck has the form and it may take the steps.
+pub fn sum_of_job(alloc: Global, job: &Job) -> Result<Option<(u64, &[u8])>, AllocError>
+    ensures { IfOk result (λ s. MatchOption s (sum_of_job job.now ≡ None) (λ p. (sum_of_job job.now ≡ Some p.0) × (p.1.now ≡ first_card job.now.deck))) }
+{
+    if job.steps < SUM_STEPS {
+        return Ok(None);
+    }
+    sum_of_deck(alloc, job.deck.as_slice())
 }

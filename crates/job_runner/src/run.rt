@@ -3,7 +3,7 @@ ghost use Rattle.deck_reader.specs.Charges.{charge, reserve};
 ghost use Rattle.algolw_meaning.specs.Texts.{source_lines};
 ghost use Rattle.algolw_meaning.specs.Meaning.{ran_body, diagnosed_body};
 
-use crate::deck::sum_of_deck;
+use crate::deck::{SUM_STEPS, sum_of_job};
 use crate::text;
 use algolw_meaning::{Ended, Ending};
 use deck_reader::{Card, Counts, Job};
@@ -28,12 +28,11 @@ pub fn run_job(alloc: Global, _desk: &mut Desk, job: &Arc<Job>) -> Result<Ended,
     ensures within { IfOk result (λ e. charge e.counts ≤ reserve e.job) }
 {
     let of: &Job = job;
-    let deck = of.deck.as_slice();
-    match sum_of_deck(alloc, deck)? {
+    match sum_of_job(alloc, job)? {
         Some((sum, card)) => {
             let counts = Counts {
                 cards: of.cards,
-                steps: 2,
+                steps: SUM_STEPS,
                 lines: 1,
             };
             let body = write_ran(alloc, card, sum, counts)?;
@@ -45,7 +44,7 @@ pub fn run_job(alloc: Global, _desk: &mut Desk, job: &Arc<Job>) -> Result<Ended,
                 steps: 0,
                 lines: 0,
             };
-            let body = write_diagnosed(alloc, deck, counts)?;
+            let body = write_diagnosed(alloc, of.deck.as_slice(), counts)?;
             Ok(Ended::new(job.clone()?, body, counts, Ending::Diagnosed))
         }
     }

@@ -1,7 +1,9 @@
 -- What a run has read and written.
-use Rattle.std.specs.Prelude.{ℕ, ◌≡◌, true, false, List, Option, take}
+use Rattle.std.specs.Prelude.{ℕ, ◌≡◌, ◌⊎◌, true, false, List, Option, take}
 use Rattle.std.specs.Io.KnownBytes.{Consumes, Appends, IsAtEnd}
-use Rattle.deck_reader.specs.Batch.{too_large}
+use Rattle.deck_reader.specs.declared.reader.Reader.{Reader}
+use Rattle.deck_reader.specs.Fed.{StandsFor}
+use Rattle.deck_reader.specs.Batch.{passes, too_large}
 use Rattle.monitor.specs.Listing.{listing}
 
 -- known bytes grow by a prefix of these
@@ -22,8 +24,15 @@ pub record IsCutShort (left left' written written' : Option (List ℕ)) : Type 0
   pub read : Consumes left left' input
   pub wrote : AppendsPrefix written written' (listing input)
 
--- what was read is too large
+-- what was read passes a limit whatever comes behind it, or is the whole source and too large
 pub record IsTooLarge (left left' : Option (List ℕ)) : Type 0 where
   pub input : List ℕ
   pub read : Consumes left left' input
-  pub large : too_large input ≡ true
+  pub large : (passes input ≡ true) ⊎ (IsAtEnd left' × (too_large input ≡ true))
+
+-- the whole source was read, and the reader stands for it
+pub record IsWhole (left left' : Option (List ℕ)) (reader : Reader) : Type 0 where
+  pub input : List ℕ
+  pub read : Consumes left left' input
+  pub to_end : IsAtEnd left'
+  pub stands : StandsFor reader input

@@ -1,7 +1,7 @@
-ghost use Rattle.std.specs.Prelude.{◌≡◌, None, List, ℕ, IfOk, OnOk, OnErr, IsErrOf};
-ghost use Rattle.std.specs.Io.KnownBytes.{Consumes, IsAtEnd};
+ghost use Rattle.std.specs.Prelude.{◌≡◌, List, ℕ, IfOk, OnOk, OnErr, IsErrOf};
+ghost use Rattle.std.specs.Io.KnownBytes.{Consumes};
 ghost use Rattle.batch_io.specs.Causes.{Rose};
-ghost use Rattle.monitor.specs.Outcome.{IsTooLarge};
+ghost use Rattle.monitor.specs.Outcome.{IsTooLarge, IsWhole};
 
 use crate::stop::Stop;
 use batch_io::Source;
@@ -13,7 +13,7 @@ const PIECE: usize = 4096;
 
 /// Reads to the end.
 pub fn read_all<S: Source>(alloc: Global, src: &mut S) -> Result<Reader, Stop>
-    ensures ok { IfOk result (λ reader. (reader.refused ≡ None) × Consumes (S.left src.old) (S.left src.new) reader.bytes × IsAtEnd (S.left src.new)) }
+    ensures ok { IfOk result (λ reader. IsWhole (S.left src.old) (S.left src.new) reader) }
     ensures kept { OnOk result (S.faults src.new ≡ S.faults src.old) }
     ensures some { OnErr result ((input : List ℕ) × Consumes (S.left src.old) (S.left src.new) input) }
     ensures read { IsErrOf result Stop.ReadFault → Rose (S.faults src.old) (S.faults src.new) }

@@ -113,11 +113,12 @@ CARDS 2 STEPS 0 LINES 0 CHARGE 2
 JOB 3 WHO EVE
 REFUSED 6: ACCOUNT UNKNOWN
 
-JOB 4 ? ?
-REFUSED 3: JOB CARD ILL FORMED
+JOB 4 BAD ADA
+DIAGNOSTIC 90 AT 1,1: DECK NOT OF THE PRESENT FORM
+CARDS 1 STEPS 0 LINES 0 CHARGE 1
 
 CLOSING BALANCES
-ADA OPENING 500 CHARGES 7 CLOSING 493
+ADA OPENING 500 CHARGES 8 CLOSING 492
 STRAY CARDS 0
 ";
 
@@ -148,47 +149,125 @@ BOB OPENING 301 CHARGES 0 CLOSING 301
 STRAY CARDS 0
 ";
 
-/// Stray cards, a card of 81 bytes, a byte that isn't allowed, data, a sum out of range, and blanks at a card's end.
-const FLAWED: &[u8] = b"A NOTE
-%ACCOUNT ADA 0500
+/// The names in small letters, the settings in either order with blanks round them, and a balance that just covers
+/// the reserve.
+const SMALL: &[u8] = b"%account\tada\t17
+%job  x , ada , lines = 7 , steps = 0020
+BEGIN WRITE(1) END.\r
+";
 
-%ACCOUNT ADA 7
-%ACCOUNT EVE 1000000000
-%JOB LONG,ADA
-BEGIN WRITE(1) END.                                                             .
-%EOJ
-LEFT OVER
-%EOJ
+const SMALL_LISTING: &[u8] = b"ALGOL W BATCH
 
-%JOB BYTE,ADA
-BEGIN WRITE(1) END.\x7f
-%JOB DATA,ADA
-BEGIN WRITE(1) END.
-%DATA
-1
-%JOB RANGE,ADA
-BEGIN WRITE(2147483647 + 1) END.
-%JOB MOST,ADA
-BEGIN WRITE(2147483646 + 0000000001) END.   
+JOB 1 X ADA
+   1        1  BEGIN WRITE(1) END.
+OUTPUT
+             1
+ENDED NORMALLY
+CARDS 2 STEPS 2 LINES 1 CHARGE 5
+
+CLOSING BALANCES
+ADA OPENING 17 CHARGES 5 CLOSING 12
+STRAY CARDS 0
+";
+
+/// A number out of range, a card of 81 bytes, an account that isn't open, and a job that runs.
+const FLAWED: &[u8] = b"%ACCOUNT ADA 1000
+%JOB A,ADA,STEPS=0
+%JOB B,ADA
+BEGIN                                                                           ;
+%JOB C,EVE
+%JOB D,ADA
+BEGIN WRITE(3) END.
 ";
 
 const FLAWED_LISTING: &[u8] = b"ALGOL W BATCH
 
+JOB 1 A ADA
+REFUSED 4: NUMBER OUT OF RANGE
+
+JOB 2 ? ?
+REFUSED 1: CARD OVER 80 BYTES
+
+JOB 3 C EVE
+REFUSED 6: ACCOUNT UNKNOWN
+
+JOB 4 D ADA
+   1        1  BEGIN WRITE(3) END.
+OUTPUT
+             3
+ENDED NORMALLY
+CARDS 2 STEPS 2 LINES 1 CHARGE 5
+
+CLOSING BALANCES
+ADA OPENING 1000 CHARGES 5 CLOSING 995
+STRAY CARDS 0
+";
+
+/// A flaw of the job card comes before an unknown account.
+const RANGE: &[u8] = b"%JOB A,EVE,STEPS=10000001\n";
+
+const RANGE_LISTING: &[u8] = b"ALGOL W BATCH
+
+JOB 1 A EVE
+REFUSED 4: NUMBER OUT OF RANGE
+
+CLOSING BALANCES
+STRAY CARDS 0
+";
+
+/// Stray cards, a byte that isn't allowed, a job card that isn't of the form, data cards, sums in and out of range, a
+/// single step, and blanks at a card's end.
+const MIXED: &[u8] = b"A NOTE
+%ACCOUNT ADA 0500
+
+%ACCOUNT ADA 7
+%ACCOUNT EVE 1000000000
+%JOB BYTE,ADA
+BEGIN WRITE(1) END.\x7f
+%EOJ
+LEFT OVER
+%EOJ
+
+%JOB FORM;ADA
+%JOB DATA,ADA,LINES=1
+BEGIN WRITE(1) END.
+%DATA
+1
+%DATA
+%JOB RANGE,ADA
+BEGIN WRITE(2147483647 + 1) END.
+%JOB ONE,ADA,STEPS=1
+BEGIN WRITE(1) END.
+%JOB MOST,ADA
+BEGIN WRITE(2147483646 + 0000000001) END.   
+";
+
+const MIXED_LISTING: &[u8] = b"ALGOL W BATCH
+
 JOB 1 ? ?
-REFUSED 3: JOB CARD ILL FORMED
+REFUSED 2: BYTE NOT ALLOWED
 
 JOB 2 ? ?
 REFUSED 3: JOB CARD ILL FORMED
 
-JOB 3 ? ?
-REFUSED 3: JOB CARD ILL FORMED
+JOB 3 DATA ADA
+   1        1  BEGIN WRITE(1) END.
+OUTPUT
+             1
+ENDED NORMALLY
+CARDS 5 STEPS 2 LINES 1 CHARGE 8
 
 JOB 4 RANGE ADA
    1           BEGIN WRITE(2147483647 + 1) END.
 DIAGNOSTIC 90 AT 1,1: DECK NOT OF THE PRESENT FORM
 CARDS 2 STEPS 0 LINES 0 CHARGE 2
 
-JOB 5 MOST ADA
+JOB 5 ONE ADA
+   1           BEGIN WRITE(1) END.
+DIAGNOSTIC 90 AT 1,1: DECK NOT OF THE PRESENT FORM
+CARDS 2 STEPS 0 LINES 0 CHARGE 2
+
+JOB 6 MOST ADA
    1        1  BEGIN WRITE(2147483646 + 0000000001) END.
 OUTPUT
     2147483647
@@ -196,7 +275,7 @@ ENDED NORMALLY
 CARDS 2 STEPS 2 LINES 1 CHARGE 5
 
 CLOSING BALANCES
-ADA OPENING 500 CHARGES 7 CLOSING 493
+ADA OPENING 500 CHARGES 17 CLOSING 483
 STRAY CARDS 5
 ";
 
@@ -208,12 +287,18 @@ fn a_batch_has_its_listing(rt: HostRuntime) -> Result<(), Fail> {
         ("one sum cut short", SUM_CUT_SHORT, SUM_LISTING),
         ("four jobs", FOUR, FOUR_LISTING),
         ("a tie", TIE, TIE_LISTING),
-        ("flaws and stray cards", FLAWED, FLAWED_LISTING),
+        ("small letters", SMALL, SMALL_LISTING),
+        ("flaws", FLAWED, FLAWED_LISTING),
+        ("the least flaw", RANGE, RANGE_LISTING),
+        ("flaws and stray cards", MIXED, MIXED_LISTING),
     ];
     for (name, input, listing) in cases {
-        let (status, written) = run(rt.alloc(), &[], input, &AMPLE)?;
-        assert_eq!(rt; status, Status::Done, "{name}");
-        assert_eq!(rt; written.as_slice(), listing, "{name}");
+        for piece in [1, 2, 3, 7, 4096] {
+            let outside = Outside { piece, ..AMPLE };
+            let (status, written) = run(rt.alloc(), &[], input, &outside)?;
+            assert_eq!(rt; status, Status::Done, "{name}, by {piece}");
+            assert_eq!(rt; written.as_slice(), listing, "{name}, by {piece}");
+        }
     }
     Ok(())
 }
@@ -259,18 +344,22 @@ fn words_are_refused(rt: HostRuntime) -> Result<(), Fail> {
     Ok(())
 }
 
+const WIDE: Outside = Outside {
+    piece: 65_536,
+    sink_stop: 200_000,
+    ..AMPLE
+};
+
 #[test]
-fn a_batch_that_is_too_large(rt: HostRuntime) -> Result<(), Fail> {
-    let mut input = vec![in rt.alloc(); b'\n'; 4_194_304]?;
-    let wide = Outside {
-        piece: 65_536,
-        ..AMPLE
-    };
-    let (status, written) = run(rt.alloc(), &[], input.as_slice(), &wide)?;
+fn the_most_jobs_are_read_and_one_more_are_too_many(rt: HostRuntime) -> Result<(), Fail> {
+    let mut heads = Vec::new(rt.alloc());
+    for _ in 0..2_000_u32 {
+        heads.extend_from_slice(b"%JOB A,ADA\n")?;
+    }
+    let (status, _) = run(rt.alloc(), &[], heads.as_slice(), &WIDE)?;
     assert_eq!(rt; status, Status::Done);
-    assert_eq!(rt; written.as_slice(), EMPTY_LISTING);
-    input.push(b'\n')?;
-    let (status, written) = run(rt.alloc(), &[], input.as_slice(), &wide)?;
+    heads.extend_from_slice(b"%job")?;
+    let (status, written) = run(rt.alloc(), &[], heads.as_slice(), &WIDE)?;
     assert_eq!(rt; status, Status::TooLarge);
     assert_eq!(rt; written.len(), 0);
     Ok(())

@@ -106,7 +106,7 @@ fn run_batch<S: Source, K: Sink>(alloc: Global, src: &mut S, sink: &mut K) -> Re
     ensures large { IsErrOf result Stop.TooLarge → IsTooLarge (S.left src.old) (S.left src.new) }
 {
     let reader = read_all(alloc, src)?;
-    let batch = reader.finish(alloc)?;
+    let batch = reader.finish()?;
     let listing = make_listing(alloc, batch)?;
     write_all_of(sink, listing.as_slice())?;
     Ok(())

@@ -1,5 +1,5 @@
-use Rattle.deck_reader.proofs.Parts.{account_card_parts}
+use Rattle.deck_reader.proofs.AccountCards.{account_card_by_parts}
 use Rattle.deck_reader.proofs.laws.account_card_by_parts.Goals as goal
 
 pub returns : goal.returns
-returns c = account_card_parts
+returns c = account_card_by_parts

@@ -1,0 +1,190 @@
+-- An open job, when one card more comes, and when it is closed.
+use Rattle.std.proofs.Common.{◌≡◌, ℕ, ◌+◌, ◌-◌, ◌^◌, ◌<◌, ◌≤◌, min, Bool, true, false, cond, not, ◌&&◌, ◌||◌, nat_lt, nat_le, List, [], ◌∷◌, ◌++◌, length, Option, Some, None, unwrap_or, is_some, refl, sym, ap, ◌∙◌, arith, inl, inr}
+use Rattle.std.specs.List.{list_any, before_first, after_first}
+use Rattle.std.specs.Option.{option_map}
+use Rattle.std.proofs.lemmas.Bool.{cases_lt}
+use Rattle.std.proofs.lemmas.Bool.Decides.{nat_tests}
+use Rattle.std.proofs.lemmas.List.{length-append}
+use Rattle.deck_reader.specs.declared.batch.Account.{Account}
+use Rattle.deck_reader.specs.declared.batch.Flaw.TheVariants as flaws
+use Rattle.deck_reader.specs.declared.forms.JobCard.{JobCard}
+use Rattle.deck_reader.specs.declared.open_job.OpenJob.{OpenJob}
+use Rattle.deck_reader.specs.Forms.{is_data, job_card, counted}
+use Rattle.deck_reader.specs.CardFlaws.{is_long, is_foul}
+use Rattle.deck_reader.specs.Batch.{is_in_range, steps_of, lines_of, flawed, job_on, job_from, job_of, account_for}
+use Rattle.deck_reader.specs.Reading.{card_may_run, may_run, Pushes, IsOpenJob, closed}
+use Rattle.deck_reader.proofs.Firsts.{list_any-push, before-none, after-none, before-found, after-found, before-here, after-here, before-past, after-past}
+
+both : (a b : Bool) → (a && b) ≡ true → (a ≡ true) × (b ≡ true)
+both true b h = (refl, h)
+both false b h = cc
+
+neither : (a : Bool) → not a ≡ true → a ≡ false
+neither true h = cc
+neither false h = refl
+
+first_false : (a b : Bool) → (a || b) ≡ false → a ≡ false
+first_false true b h = cc
+first_false false b h = refl
+
+most : (n : ℕ) → nat_le n 2000 ≡ true → n ≤ 2000
+most n h = grind (arith, nat_tests)
+
+-- where a job may run with a card more, it might before
+may_run_before : (old new : OpenJob) (card : List ℕ) → Pushes old new card → may_run new ≡ true → may_run old ≡ true
+may_run_before old new card pushes h =
+    let flags = both (not new.has_long && not new.has_foul) _ h in
+    let clean = both (not new.has_long) (not new.has_foul) flags.0 in
+    let rest = both (nat_le new.cards 2000) _ flags.1 in
+    let long : old.has_long ≡ false = first_false old.has_long (is_long card) (sym pushes.long ∙ neither new.has_long clean.0) in
+    let foul : old.has_foul ≡ false = first_false old.has_foul (is_foul card) (sym pushes.foul ∙ neither new.has_foul clean.1) in
+    let few : new.cards ≤ 2000 = most new.cards rest.0 in
+    let count : new.cards ≡ min (old.cards + 1) (2 ^ 32 - 1) = pushes.count in
+    let fewer : old.cards ≤ 2000 = omega arith in
+    let within : nat_le old.cards 2000 ≡ true = grind (arith, nat_tests) in
+    ap (λ (b : Bool). (not b && not old.has_foul) && (nat_le old.cards 2000 && (is_some old.account && card_may_run old.card))) long
+    ∙ ap (λ (b : Bool). not b && (nat_le old.cards 2000 && (is_some old.account && card_may_run old.card))) foul
+    ∙ ap (λ (b : Bool). b && (is_some old.account && card_may_run old.card)) within
+    ∙ ap (λ (a : Option ℕ). is_some a && card_may_run old.card) (sym pushes.account)
+    ∙ ap (λ (c : Option JobCard). is_some new.account && card_may_run c) (sym pushes.card_same)
+    ∙ rest.1
+
+deck_step : (begun here : Bool) (deck : List (List ℕ)) (behind : List (List ℕ)) (card : List ℕ) → list_any is_data behind ≡ begun → is_data card ≡ here → deck ≡ before_first is_data behind
+    → cond (begun || here) deck (deck ++ card ∷ []) ≡ before_first is_data (behind ++ card ∷ [])
+deck_step true here deck behind card is at same = same ∙ sym (before-found is_data behind card is)
+deck_step false true deck behind card is at same = same ∙ before-none is_data behind is ∙ sym (before-here is_data behind card is at)
+deck_step false false deck behind card is at same = ap (λ (xs : List (List ℕ)). xs ++ card ∷ []) (same ∙ before-none is_data behind is) ∙ sym (before-past is_data behind card is at)
+
+data_step : (begun here : Bool) (data_cards : List (List ℕ)) (behind : List (List ℕ)) (card : List ℕ) → list_any is_data behind ≡ begun → is_data card ≡ here → data_cards ≡ after_first is_data behind
+    → cond begun (data_cards ++ card ∷ []) data_cards ≡ after_first is_data (behind ++ card ∷ [])
+data_step true here data_cards behind card is at same = ap (λ (xs : List (List ℕ)). xs ++ card ∷ []) same ∙ sym (after-found is_data behind card is)
+data_step false true data_cards behind card is at same = same ∙ after-none is_data behind is ∙ sym (after-here is_data behind card is at)
+data_step false false data_cards behind card is at same = same ∙ after-none is_data behind is ∙ sym (after-past is_data behind card is at)
+
+-- an open job with a card more stands for the head and one card more
+pub pushed : (accounts : List Account) (number : ℕ) (head : List ℕ) (behind : List (List ℕ)) (old new : OpenJob) (card : List ℕ)
+    → length behind < 2 ^ 31 → IsOpenJob accounts number head behind old → Pushes old new card → IsOpenJob accounts number head (behind ++ card ∷ []) new
+pushed accounts number head behind old new card few at pushes =
+    let count : new.cards ≡ min (old.cards + 1) (2 ^ 32 - 1) = pushes.count in
+    let counted_before : old.cards ≡ length behind + 1 = at.count_is in
+    record {
+      number_is = pushes.number ∙ at.number_is;
+      card_is = pushes.card_same ∙ at.card_is;
+      account_is = pushes.account ∙ at.account_is;
+      count_is = omega (arith, length-append behind (card ∷ []));
+      long_is = pushes.long ∙ ap (λ (b : Bool). b || is_long card) at.long_is ∙ sym (list_any-push is_long (head ∷ behind) card);
+      foul_is = pushes.foul ∙ ap (λ (b : Bool). b || is_foul card) at.foul_is ∙ sym (list_any-push is_foul (head ∷ behind) card);
+      in_data_is = pushes.in_data ∙ ap (λ (b : Bool). b || is_data card) at.in_data_is ∙ sym (list_any-push is_data behind card);
+      deck_is = λ runs. pushes.deck runs ∙ deck_step old.in_data (is_data card) old.deck behind card (sym at.in_data_is) refl (at.deck_is (may_run_before old new card pushes runs));
+      data_is = λ runs. pushes.data_cards runs ∙ data_step old.in_data (is_data card) old.data_cards behind card (sym at.in_data_is) refl (at.data_is (may_run_before old new card pushes runs));
+    }
+
+kept_by : (range over : Bool) (number count : ℕ) (card : JobCard) (account : Option ℕ) (deck data_cards deck' data' : List (List ℕ))
+    → (over ≡ false → range ≡ true → is_some account ≡ true → (deck ≡ deck') × (data_cards ≡ data'))
+    → cond range (cond over (flawed number count card account (steps_of card) (lines_of card) flaws.TooManyCards) (job_on number count card account deck data_cards)) (flawed number count card account 10000 100 flaws.NumberOutOfRange)
+    ≡ cond range (cond over (flawed number count card account (steps_of card) (lines_of card) flaws.TooManyCards) (job_on number count card account deck' data')) (flawed number count card account 10000 100 flaws.NumberOutOfRange)
+kept_by false over number count card account deck data_cards deck' data' h = refl
+kept_by true true number count card account deck data_cards deck' data' h = refl
+kept_by true false number count card None deck data_cards deck' data' h = refl
+kept_by true false number count card (Some a) deck data_cards deck' data' h =
+    let same = h refl refl refl in
+    ap (λ (xs : List (List ℕ)). job_on number count card (Some a) xs data_cards) same.0 ∙ ap (λ (xs : List (List ℕ)). job_on number count card (Some a) deck' xs) same.1
+
+all_true : (a b c : Bool) → a ≡ true → b ≡ true → c ≡ true → (a && (b && c)) ≡ true
+all_true true true true h k l = refl
+all_true false b c h k l = cc
+all_true true false c h k l = cc
+all_true true true false h k l = cc
+
+within : (count : ℕ) → nat_lt 2000 count ≡ false → nat_le count 2000 ≡ true
+within count h = grind (arith, nat_tests)
+
+-- the deck and the data count only where the job may run
+kept : (number count : ℕ) (long foul : Bool) (card : Option JobCard) (account : Option ℕ) (deck data_cards deck' data' : List (List ℕ))
+    → (((not long && not foul) && (nat_le count 2000 && (is_some account && card_may_run card))) ≡ true → (deck ≡ deck') × (data_cards ≡ data'))
+    → job_from number count long foul card account deck data_cards ≡ job_from number count long foul card account deck' data'
+kept number count true foul card account deck data_cards deck' data' h = refl
+kept number count false true card account deck data_cards deck' data' h = refl
+kept number count false false None account deck data_cards deck' data' h = refl
+kept number count false false (Some card) account deck data_cards deck' data' h =
+    kept_by (is_in_range card) (nat_lt 2000 count) number count card account deck data_cards deck' data'
+    (λ over range there. h (all_true (nat_le count 2000) (is_some account) (is_in_range card) (within count over) there range))
+
+same_below : (n most : ℕ) → most ≤ 10000000 → nat_le n most ≡ true → min (2 ^ 32 - 1) n ≡ n
+same_below n most small h = grind (arith, nat_tests)
+
+range_of : (m n : ℕ) → n ≤ 10000000 → (nat_le 1 (min (2 ^ 32 - 1) m) && nat_le (min (2 ^ 32 - 1) m) n) ≡ (nat_le 1 m && nat_le m n)
+range_of m n small = elim (cases_lt m (2 ^ 32 - 1)) [
+  | inl h ↦ let same : min (2 ^ 32 - 1) m ≡ m = omega arith in ap (λ (k : ℕ). nat_le 1 k && nat_le k n) same
+  | inr h ↦
+      let top : min (2 ^ 32 - 1) m ≡ 2 ^ 32 - 1 = omega arith in
+      let past : nat_le (2 ^ 32 - 1) n ≡ false = grind (arith, nat_tests) in
+      let past' : nat_le m n ≡ false = grind (arith, nat_tests) in
+      let some : nat_le 1 m ≡ true = grind (arith, nat_tests) in
+      ap (λ (k : ℕ). nat_le 1 k && nat_le k n) top ∙ past ∙ sym (ap (λ (b : Bool). b && nat_le m n) some ∙ past')
+]
+
+-- whether a number is in range, also where it stops at the largest of 32 bits
+option_range : (given : Option ℕ) (usual most : ℕ) → most ≤ 10000000
+    → (nat_le 1 (unwrap_or (option_map (min (2 ^ 32 - 1)) given) usual) && nat_le (unwrap_or (option_map (min (2 ^ 32 - 1)) given) usual) most) ≡ (nat_le 1 (unwrap_or given usual) && nat_le (unwrap_or given usual) most)
+option_range None usual most small = refl
+option_range (Some n) usual most small = range_of n most small
+
+option_same : (given : Option ℕ) (usual most : ℕ) → most ≤ 10000000 → (nat_le 1 (unwrap_or given usual) && nat_le (unwrap_or given usual) most) ≡ true → unwrap_or (option_map (min (2 ^ 32 - 1)) given) usual ≡ unwrap_or given usual
+option_same None usual most small h = refl
+option_same (Some n) usual most small h = same_below n most small (both (nat_le 1 n) (nat_le n most) h).1
+
+range_same : (card : JobCard) → is_in_range (counted card) ≡ is_in_range card
+range_same card =
+    ap (λ (b : Bool). b && (nat_le 1 (lines_of (counted card)) && nat_le (lines_of (counted card)) 500)) (option_range card.steps 10000 10000000 (omega arith))
+    ∙ ap (λ (b : Bool). (nat_le 1 (steps_of card) && nat_le (steps_of card) 10000000) && b) (option_range card.lines 100 500 (omega arith))
+
+over_same : (over : Bool) (number count : ℕ) (card : JobCard) (account : Option ℕ) (deck data_cards : List (List ℕ)) → steps_of (counted card) ≡ steps_of card → lines_of (counted card) ≡ lines_of card
+    → cond over (flawed number count (counted card) account (steps_of (counted card)) (lines_of (counted card)) flaws.TooManyCards) (job_on number count (counted card) account deck data_cards)
+    ≡ cond over (flawed number count card account (steps_of card) (lines_of card) flaws.TooManyCards) (job_on number count card account deck data_cards)
+over_same true number count card account deck data_cards steps lines =
+    ap (λ (n : ℕ). flawed number count card account n (lines_of (counted card)) flaws.TooManyCards) steps ∙ ap (λ (n : ℕ). flawed number count card account (steps_of card) n flaws.TooManyCards) lines
+over_same false number count card None deck data_cards steps lines =
+    ap (λ (n : ℕ). flawed number count card None n (lines_of (counted card)) flaws.AccountUnknown) steps ∙ ap (λ (n : ℕ). flawed number count card None (steps_of card) n flaws.AccountUnknown) lines
+over_same false number count card (Some a) deck data_cards steps lines =
+    ap (λ (n : ℕ). record (job_on number count card (Some a) deck data_cards) { steps = n; lines = lines_of (counted card) }) steps
+    ∙ ap (λ (n : ℕ). record (job_on number count card (Some a) deck data_cards) { steps = steps_of card; lines = n }) lines
+
+counted_by : (range : Bool) (over : Bool) (number count : ℕ) (card : JobCard) (account : Option ℕ) (deck data_cards : List (List ℕ)) → is_in_range card ≡ range
+    → cond range (cond over (flawed number count (counted card) account (steps_of (counted card)) (lines_of (counted card)) flaws.TooManyCards) (job_on number count (counted card) account deck data_cards)) (flawed number count (counted card) account 10000 100 flaws.NumberOutOfRange)
+    ≡ cond range (cond over (flawed number count card account (steps_of card) (lines_of card) flaws.TooManyCards) (job_on number count card account deck data_cards)) (flawed number count card account 10000 100 flaws.NumberOutOfRange)
+counted_by false over number count card account deck data_cards is = refl
+counted_by true over number count card account deck data_cards is =
+    let ranges = both (nat_le 1 (steps_of card) && nat_le (steps_of card) 10000000) _ is in
+    let steps : steps_of (counted card) ≡ steps_of card = option_same card.steps 10000 10000000 (omega arith) ranges.0 in
+    let lines : lines_of (counted card) ≡ lines_of card = option_same card.lines 100 500 (omega arith) ranges.1 in
+    over_same over number count card account deck data_cards steps lines
+
+-- numbers that stop at the largest of 32 bits make the same job
+counted_same : (number count : ℕ) (long foul : Bool) (card : Option JobCard) (account : Option ℕ) (deck data_cards : List (List ℕ))
+    → job_from number count long foul (option_map counted card) account deck data_cards ≡ job_from number count long foul card account deck data_cards
+counted_same number count true foul card account deck data_cards = refl
+counted_same number count false true card account deck data_cards = refl
+counted_same number count false false None account deck data_cards = refl
+counted_same number count false false (Some card) account deck data_cards =
+    ap (λ (b : Bool). cond b (cond (nat_lt 2000 count) (flawed number count (counted card) account (steps_of (counted card)) (lines_of (counted card)) flaws.TooManyCards) (job_on number count (counted card) account deck data_cards)) (flawed number count (counted card) account 10000 100 flaws.NumberOutOfRange)) (range_same card)
+    ∙ counted_by (is_in_range card) (nat_lt 2000 count) number count card account deck data_cards refl
+
+-- an open job that is closed is the job that it stands for
+pub closed_is : (accounts : List Account) (number : ℕ) (head : List ℕ) (behind : List (List ℕ)) (job : OpenJob) → IsOpenJob accounts number head behind job → closed job ≡ job_of accounts number head behind
+closed_is accounts number head behind job at =
+    let deck = before_first is_data behind in
+    let data_cards = after_first is_data behind in
+    kept job.number job.cards job.has_long job.has_foul job.card job.account job.deck job.data_cards deck data_cards (λ runs. (at.deck_is runs, at.data_is runs))
+    ∙ ap (λ (n : ℕ). job_from n job.cards job.has_long job.has_foul job.card job.account deck data_cards) at.number_is
+    ∙ ap (λ (n : ℕ). job_from number n job.has_long job.has_foul job.card job.account deck data_cards) at.count_is
+    ∙ ap (λ (b : Bool). job_from number (length behind + 1) b job.has_foul job.card job.account deck data_cards) at.long_is
+    ∙ ap (λ (b : Bool). job_from number (length behind + 1) (list_any is_long (head ∷ behind)) b job.card job.account deck data_cards) at.foul_is
+    ∙ ap (λ (c : Option JobCard). job_from number (length behind + 1) (list_any is_long (head ∷ behind)) (list_any is_foul (head ∷ behind)) c job.account deck data_cards) at.card_is
+    ∙ counted_same number (length behind + 1) (list_any is_long (head ∷ behind)) (list_any is_foul (head ∷ behind)) (job_card head) job.account deck data_cards
+    ∙ ap (λ (a : Option ℕ). job_from number (length behind + 1) (list_any is_long (head ∷ behind)) (list_any is_foul (head ∷ behind)) (job_card head) a deck data_cards) at.account_is
+
+-- numbers that stop at the largest of 32 bits leave the account
+pub account_for-counted : (accounts : List Account) (card : Option JobCard) → account_for accounts (option_map counted card) ≡ account_for accounts card
+account_for-counted accounts None = refl
+account_for-counted accounts (Some card) = refl

@@ -1,0 +1,235 @@
+ghost use Rattle.std.specs.Prelude.{◌≡◌, ◌≤◌, ◌<◌, ◌+◌, [], false, OnOk, length};
+ghost use Rattle.std.specs.List.{list_all, list_any};
+ghost use Rattle.deck_reader.specs.Forms.{is_allowed};
+ghost use Rattle.deck_reader.specs.CardFlaws.{is_long, is_foul};
+ghost use Rattle.deck_reader.specs.Batch.{is_in_range, steps_of, lines_of, account_for, job_from, unread};
+
+use crate::accounts;
+use crate::batch::{Account, Flaw, Job};
+use crate::forms::{self, JobCard};
+use crate::listed::Listed;
+use crate::short::{Card, Name};
+use std::alloc::{AllocError, Global};
+
+/// The most bytes of a job's card.
+const CARD_BYTES: usize = 80;
+
+/// The most cards of a job, the job card among them.
+const MOST_CARDS: u32 = 2_000;
+
+/// The most steps of a job whose card gives none.
+const STEPS: u32 = 10_000;
+
+/// The most steps that a card may give.
+const MOST_STEPS: u32 = 10_000_000;
+
+/// The most lines of a job whose card gives none.
+const LINES: u32 = 100;
+
+/// The most lines that a card may give.
+const MOST_LINES: u32 = 500;
+
+/// The most steps that a job card gives its job.
+fn most_steps(card: &JobCard) -> u32
+    ensures { result ≡ steps_of card.now }
+{
+    card.steps.unwrap_or(STEPS)
+}
+
+/// The most lines that a job card gives its job.
+fn most_lines(card: &JobCard) -> u32
+    ensures { result ≡ lines_of card.now }
+{
+    card.lines.unwrap_or(LINES)
+}
+
+/// Whether the numbers of a job card are in range.
+fn is_in_range(card: &JobCard) -> bool
+    ensures { result ≡ is_in_range card.now }
+{
+    (1..=MOST_STEPS).contains(&most_steps(card)) && (1..=MOST_LINES).contains(&most_lines(card))
+}
+
+/// A job whose cards are still coming.
+#[derive(Drop)]
+pub struct OpenJob {
+    /// Its number in the batch.
+    pub number: u32,
+    /// What its job card states, where that has the form.
+    pub card: Option<JobCard>,
+    /// Its account's number, where that is open.
+    pub account: Option<u32>,
+    /// How many cards it has by now, the job card among them.
+    pub cards: u32,
+    /// Whether one of them is over 80 bytes.
+    pub has_long: bool,
+    /// Whether one of them holds a byte that isn't allowed.
+    pub has_foul: bool,
+    /// Whether its data have begun.
+    pub in_data: bool,
+    /// Its deck by now, as long as it may still run.
+    pub deck: Listed<Card>,
+    /// Its data cards by now, as long as it may still run.
+    pub data_cards: Listed<Card>,
+    ghost fewer: { length deck + length data_cards < cards },
+    ghost deck_short: { list_any is_long deck ≡ false },
+    ghost deck_clean: { list_any is_foul deck ≡ false },
+    ghost data_short: { list_any is_long data_cards ≡ false },
+    ghost data_clean: { list_any is_foul data_cards ≡ false },
+}
+
+fn is_long(card: &[u8]) -> bool
+    ensures { result ≡ is_long card.now }
+{
+    card.len() > CARD_BYTES
+}
+
+fn is_foul(card: &[u8]) -> bool
+    ensures { result ≡ is_foul card.now }
+{
+    !all_allowed(card)
+}
+
+fn all_allowed(bytes: &[u8]) -> bool
+    ensures { result ≡ list_all is_allowed bytes.now }
+{
+    bytes.iter().all(|b| forms::is_allowed(*b))
+}
+
+impl OpenJob {
+    ghost use Rattle.deck_reader.specs.Reading.{IsOpenJob, Pushes, may_run};
+
+    /// The job that this card begins.
+    pub fn new(alloc: Global, accounts: &[Account], number: u32, head: &[u8]) -> OpenJob
+        requires { length accounts.now ≤ 500 }
+        ensures { IsOpenJob accounts.now number head.now [] result }
+    {
+        let card = forms::job_card(head);
+        OpenJob {
+            number,
+            card,
+            account: account_for(accounts, &card),
+            cards: 1,
+            has_long: is_long(head),
+            has_foul: is_foul(head),
+            in_data: false,
+            deck: Listed::new(alloc),
+            data_cards: Listed::new(alloc),
+        }
+    }
+
+    /// Whether no flaw applies by now.
+    fn may_run(&self) -> bool
+        ensures { result ≡ may_run self.now }
+    {
+        !self.has_long
+            && !self.has_foul
+            && self.cards <= MOST_CARDS
+            && self.account.is_some()
+            && self.card.is_some_and(|c| is_in_range(&c))
+    }
+
+    /// Takes the job's next card.
+    pub fn push(&mut self, alloc: Global, card: &[u8]) -> Result<(), AllocError>
+        ensures { OnOk result (Pushes self.old self.new card.now) }
+    {
+        let begins_data = !self.in_data && forms::is_data(card);
+        self.cards = self.cards.saturating_add(1);
+        self.has_long = self.has_long || is_long(card);
+        self.has_foul = self.has_foul || is_foul(card);
+        if !self.may_run() {
+            self.deck = Listed::new(alloc);
+            self.data_cards = Listed::new(alloc);
+        } else if self.in_data {
+            self.data_cards.push(Card::from_slice(card))?;
+        } else if !begins_data {
+            self.deck.push(Card::from_slice(card))?;
+        }
+        self.in_data = self.in_data || begins_data;
+        Ok(())
+    }
+
+    /// The job, whose cards have all come.
+    pub fn close(self, alloc: Global) -> Job
+        ensures { result ≡ job_from self.number self.cards self.has_long self.has_foul self.card self.account self.deck self.data_cards }
+    {
+        let OpenJob {
+            number,
+            card,
+            account,
+            cards,
+            has_long,
+            has_foul,
+            deck,
+            data_cards,
+            ..
+        } = self;
+        if has_long {
+            return unread(alloc, number, cards, Flaw::CardTooLong);
+        }
+        if has_foul {
+            return unread(alloc, number, cards, Flaw::ByteNotAllowed);
+        }
+        let Some(card) = card else {
+            return unread(alloc, number, cards, Flaw::JobCard);
+        };
+        let flaw = if !is_in_range(&card) {
+            Some(Flaw::NumberOutOfRange)
+        } else if cards > MOST_CARDS {
+            Some(Flaw::TooManyCards)
+        } else if account.is_none() {
+            Some(Flaw::AccountUnknown)
+        } else {
+            None
+        };
+        let (deck, data_cards) = match flaw {
+            None => (deck, data_cards),
+            Some(_) => (Listed::new(alloc), Listed::new(alloc)),
+        };
+        let (steps, lines) = match flaw {
+            Some(Flaw::NumberOutOfRange) => (STEPS, LINES),
+            _ => (most_steps(&card), most_lines(&card)),
+        };
+        Job {
+            number,
+            name: card.name,
+            account_name: card.account,
+            account,
+            deck,
+            data_cards,
+            steps,
+            lines,
+            cards,
+            flaw,
+        }
+    }
+}
+
+/// The open account of a job card.
+fn account_for(accounts: &[Account], card: &Option<JobCard>) -> Option<u32>
+    requires { length accounts.now ≤ 500 }
+    ensures { result ≡ account_for accounts.now card.now }
+{
+    match card {
+        None => None,
+        Some(card) => accounts::find(accounts, card.account.as_slice()),
+    }
+}
+
+/// A job that can't be read.
+fn unread(alloc: Global, number: u32, cards: u32, flaw: Flaw) -> Job
+    ensures { result ≡ unread number cards flaw }
+{
+    Job {
+        number,
+        name: Name::from_slice(b"?"),
+        account_name: Name::from_slice(b"?"),
+        account: None,
+        deck: Listed::new(alloc),
+        data_cards: Listed::new(alloc),
+        steps: STEPS,
+        lines: LINES,
+        cards,
+        flaw: Some(flaw),
+    }
+}

@@ -1,0 +1,123 @@
+ghost use Rattle.std.specs.Prelude.{◌≡◌, ◌≤◌, ◌<◌, ◌+◌, ◌^◌, ◌-◌, ◌++◌, ◌∷◌, [], ℕ, List, true, min, nat_lt, if◌then◌else◌, IfOk, OnOk, length};
+ghost use Rattle.deck_reader.specs.Batch.{batch_of};
+ghost use Rattle.deck_reader.specs.Forms.{is_head};
+
+use crate::batch::{Account, Batch, Job};
+use crate::listed::Listed;
+use crate::open_job::OpenJob;
+use crate::{accounts, forms};
+use std::alloc::{AllocError, Global};
+use std::mem;
+
+/// Where in a batch the next card stands.
+#[derive(Drop)]
+pub enum Stage {
+    /// Before the first job.
+    Front,
+    /// In a job, behind its job card.
+    Inside(OpenJob),
+    /// Behind a job's end card.
+    Outside,
+}
+
+/// What is kept of the cards that have come.
+#[derive(Drop)]
+pub struct Reading {
+    /// The accounts opened.
+    pub accounts: Listed<Account>,
+    /// The jobs whose cards have all come.
+    pub jobs: Listed<Job>,
+    /// How many cards began a job.
+    pub heads: u32,
+    /// How many cards were stray.
+    pub stray: u32,
+    /// Where the next card stands.
+    pub stage: Stage,
+    ghost few: { length accounts ≤ 500 },
+}
+
+impl Reading {
+    ghost use Rattle.deck_reader.specs.Reading.{IsReading, Closes};
+
+    /// Before the first card.
+    pub fn new(alloc: Global) -> Reading
+        ensures { IsReading result [] }
+    {
+        Reading {
+            accounts: Listed::new(alloc),
+            jobs: Listed::new(alloc),
+            heads: 0,
+            stray: 0,
+            stage: Stage::Front,
+        }
+    }
+
+    /// Takes the next card.
+    pub fn take_card(&mut self, alloc: Global, card: &[u8]) -> Result<(), AllocError>
+        ensures { (cards : List (List ℕ)) → length cards < 2 ^ 31 → IsReading self.old cards → OnOk result (IsReading self.new (cards ++ card.now ∷ [])) }
+    {
+        if forms::is_head(card) {
+            return self.begin_job(alloc, card);
+        }
+        match &mut self.stage {
+            Stage::Front => {
+                let opened = accounts::open(&mut self.accounts, card)?;
+                if !opened {
+                    self.count_stray(card);
+                }
+            }
+            Stage::Inside(job) => {
+                if forms::is_end(card) {
+                    self.close_job(alloc)?;
+                } else {
+                    job.push(alloc, card)?;
+                }
+            }
+            Stage::Outside => self.count_stray(card),
+        }
+        Ok(())
+    }
+
+    /// Begins the job of a job card, and ends the one before.
+    fn begin_job(&mut self, alloc: Global, head: &[u8]) -> Result<(), AllocError>
+        requires { is_head head.now ≡ true }
+        ensures { (cards : List (List ℕ)) → length cards < 2 ^ 31 → IsReading self.old cards → OnOk result (IsReading self.new (cards ++ head.now ∷ [])) }
+    {
+        self.close_job(alloc)?;
+        self.heads = self.heads.saturating_add(1);
+        let job = OpenJob::new(alloc, self.accounts.as_slice(), self.heads, head);
+        self.stage = Stage::Inside(job);
+        Ok(())
+    }
+
+    /// Ends the job under way, where there is one.
+    fn close_job(&mut self, alloc: Global) -> Result<(), AllocError>
+        ensures { OnOk result (Closes self.old self.new) }
+    {
+        if let Stage::Inside(job) = mem::replace(&mut self.stage, Stage::Outside) {
+            self.jobs.push(job.close(alloc))?;
+        }
+        Ok(())
+    }
+
+    /// Counts a stray card, unless it is blank.
+    fn count_stray(&mut self, card: &[u8])
+        ensures { self.new ≡ record self.old { stray = if nat_lt 0 (length card.now) then min (self.old.stray + 1) (2 ^ 32 - 1) else self.old.stray } }
+    {
+        if !card.is_empty() {
+            self.stray = self.stray.saturating_add(1);
+        }
+    }
+
+    /// The batch, whose cards have all come.
+    pub fn finish(mut self, alloc: Global) -> Result<Batch, AllocError>
+        ensures { (cards : List (List ℕ)) → IsReading self cards → IfOk result (λ b. b ≡ batch_of cards) }
+    {
+        self.close_job(alloc)?;
+        Ok(Batch {
+            accounts: self.accounts,
+            jobs: self.jobs,
+            stray: self.stray,
+        })
+    }
+}
