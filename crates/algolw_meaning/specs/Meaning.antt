@@ -2,7 +2,8 @@
 use Rattle.std.specs.Prelude.{ℕ, nat_le, if◌then◌else◌, List, [], ◌∷◌, ◌++◌, codes, decimal, Option, Some, None}
 use Rattle.deck_reader.specs.JobView.{JobView}
 use Rattle.deck_reader.specs.declared.charges.Counts.{Counts}
-use Rattle.algolw_meaning.specs.Texts.{right, line, source_line, source_lines, sum_line}
+use Rattle.short_text.specs.Blanks.{right}
+use Rattle.algolw_meaning.specs.Texts.{line, source_line, source_lines, sum_line}
 use Rattle.algolw_meaning.specs.Sums.{sum_of_deck}
 use Rattle.algolw_meaning.specs.declared.ending.Ending.{Ending}
 use Rattle.algolw_meaning.specs.declared.ending.Ending.TheVariants.{Normal, Diagnosed}

@@ -1,12 +1,8 @@
 -- The lines of a section.
-use Rattle.std.specs.Prelude.{ℕ, ◌-◌, ◌+◌, List, [], ◌∷◌, ◌++◌, length, replicate, decimal, codes}
-use Rattle.deck_reader.specs.Cards.{trimmed}
+use Rattle.std.specs.Prelude.{ℕ, ◌+◌, List, [], ◌∷◌, ◌++◌, decimal, codes}
+use Rattle.short_text.specs.Blanks.{trimmed, right}
 use Rattle.deck_reader.specs.Charges.{charge}
 use Rattle.deck_reader.specs.declared.charges.Counts.{Counts}
-
--- a text with blanks before it, that fills a width
-abbrev pub right : ℕ → List ℕ → List ℕ
-right width text = replicate (width - length text) 32 ++ text
 
 -- a text and a line feed
 abbrev pub line : List ℕ → List ℕ

@@ -8,9 +8,8 @@ use Rattle.std.proofs.lemmas.List.Sums.{position_or_len_is, AllPass-from_list_al
 use Rattle.std.proofs.Math.Seq.{drop-append-add}
 use Rattle.std.specs.List.{All, list_all, position_or_len, prefix_len, suffix_len}
 use Rattle.std.specs.Option.{option_map}
-use Rattle.deck_reader.specs.Cards.{trimmed}
 use Rattle.deck_reader.specs.Forms.{fields, parted, behind_blanks, stripped}
-use Rattle.deck_reader.specs.CardForms.{blanks}
+use Rattle.short_text.specs.Blanks.{trimmed, blanks}
 
 -- none of the bytes is this one
 abbrev pub Lacks : ℕ → List ℕ → Type 0

@@ -9,7 +9,8 @@ use Rattle.std.specs.Option.{option_map, MatchOption}
 use Rattle.std.specs.Str.{bytes_eq}
 use Rattle.deck_reader.specs.declared.forms.JobCard.{JobCard}
 use Rattle.deck_reader.specs.Forms.{folded, is_name, ends_a_word, is_control, is_head, fields, stripped, name_of, settings_of, job_with, job_of_fields, job_card, counted, counted_settings}
-use Rattle.deck_reader.specs.CardForms.{blanks, IsWord, IsName, IsField, IsSettings, IsJobCard, JobCardByParts}
+use Rattle.short_text.specs.Blanks.{blanks}
+use Rattle.deck_reader.specs.CardForms.{IsWord, IsName, IsField, IsSettings, IsJobCard, JobCardByParts}
 use Rattle.deck_reader.proofs.Fields.{Lacks, fields_of_more}
 use Rattle.deck_reader.proofs.Settings.{if_some, both_true, name_lacks, from_is_name, word-length, from_name_of, name_of_is, field_of, field-stripped, field_lacks, from_settings_of, settings_are}
 

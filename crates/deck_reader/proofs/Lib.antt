@@ -1,4 +1,3 @@
-pub mod InPlace
 pub mod Cuts
 pub mod Pieces
 pub mod Returns

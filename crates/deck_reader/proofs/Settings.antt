@@ -10,7 +10,8 @@ use Rattle.std.specs.Option.{option_map, option_or, option_zip}
 use Rattle.std.specs.Str.{bytes_eq}
 use Rattle.std.specs.Str.Parse.{digits_value}
 use Rattle.deck_reader.specs.Forms.{capital, folded, is_letter, is_digit, is_name, is_digits, fields, parted, behind_blanks, stripped, name_of, number_of, number_behind, steps_of, lines_of, one_setting, both_given, settings_of, in_32_bits, counted_settings}
-use Rattle.deck_reader.specs.CardForms.{blanks, IsWord, IsName, IsNumber, IsField, IsSetting, IsSettings, neither, steps_alone, lines_alone, steps_then_lines, lines_then_steps}
+use Rattle.short_text.specs.Blanks.{blanks}
+use Rattle.deck_reader.specs.CardForms.{IsWord, IsName, IsNumber, IsField, IsSetting, IsSettings, neither, steps_alone, lines_alone, steps_then_lines, lines_then_steps}
 use Rattle.deck_reader.proofs.Fields.{Lacks, Lacks-from_all, Lacks-blanks, from_parted, parted_is, fields_of_one, fields_of_more, fields-not_parted, fields-parted, stripped_is, with_blanks_round}
 
 pub if_some : {A : Type 0} (b : Bool) (r : Option A) (w : A) → cond b r None ≡ Some w → (b ≡ true) × (r ≡ Some w)

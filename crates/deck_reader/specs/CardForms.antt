@@ -1,13 +1,10 @@
 -- The forms of the cards, as a grammar: relations between a card and its parts.
-use Rattle.std.specs.Prelude.{◌≡◌, ◌≤◌, ◌↔◌, ℕ, true, List, [], ◌∷◌, ◌++◌, replicate, codes, Option, Some, None}
+use Rattle.std.specs.Prelude.{◌≡◌, ◌≤◌, ◌↔◌, ℕ, true, List, [], ◌∷◌, ◌++◌, codes, Option, Some, None}
 use Rattle.std.specs.Str.Parse.{digits_value}
+use Rattle.short_text.specs.Blanks.{blanks}
 use Rattle.deck_reader.specs.Forms.{folded, is_name, is_digits, job_card, account_card}
 use Rattle.deck_reader.specs.declared.forms.AccountCard.{AccountCard}
 use Rattle.deck_reader.specs.declared.forms.JobCard.{JobCard}
-
--- this many blanks, which may be none
-abbrev pub blanks : ℕ → List ℕ
-blanks n = replicate n 32
 
 -- a word in either case of letters
 abbrev pub IsWord : List ℕ → List ℕ → Type 0

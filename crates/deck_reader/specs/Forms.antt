@@ -3,7 +3,7 @@ use Rattle.std.specs.Prelude.{ℕ, ◌+◌, ◌-◌, ◌^◌, min, position, Boo
 use Rattle.std.specs.List.{list_all, slice_split, prefix_len}
 use Rattle.std.specs.Option.{option_map, option_or, option_zip}
 use Rattle.std.specs.Str.Parse.{digits_value}
-use Rattle.deck_reader.specs.Cards.{trimmed}
+use Rattle.short_text.specs.Blanks.{trimmed}
 use Rattle.deck_reader.specs.declared.forms.AccountCard.{AccountCard}
 use Rattle.deck_reader.specs.declared.forms.JobCard.{JobCard}
 

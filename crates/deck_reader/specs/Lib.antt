@@ -1,4 +1,3 @@
-pub mod Short
 pub mod Cards
 pub mod CardLaws
 pub mod Forms

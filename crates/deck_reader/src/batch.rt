@@ -1,6 +1,12 @@
 use crate::listed::Listed;
-use crate::short::{Card, Name};
+use short_text::Short;
 use std::marker::Model;
+
+/// A card of a job: at most 80 bytes.
+pub type Card = Short<80>;
+
+/// The name of a job or of an account.
+pub type Name = Short<80>;
 
 /// Why a job is refused before its deck is looked at.
 #[derive(Clone, Copy, Debug, PartialEq, Eq)]

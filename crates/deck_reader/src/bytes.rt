@@ -1,22 +1,5 @@
 ghost use Rattle.std.specs.Prelude.{◌≡◌, ◌==◌, ◌+◌, ◌≤◌, ◌<◌, None, Some, position, length, IfSome, MatchOption};
-ghost use Rattle.std.specs.List.{suffix_len};
-ghost use Rattle.deck_reader.specs.Cards.{trimmed};
 ghost use Rattle.deck_reader.specs.Forms.{parted};
-
-/// The bytes without the blanks at their end.
-pub fn without_blanks(bytes: &[u8]) -> &[u8]
-    ensures { result.now ≡ trimmed bytes.now }
-{
-    &bytes[..bytes.len() - count_blanks(bytes)]
-}
-
-/// How many blanks stand at the end.
-fn count_blanks(bytes: &[u8]) -> usize
-    ensures count { result ≡ suffix_len (λ b. b == 32) bytes.now }
-    ensures within { result ≤ length bytes.now }
-{
-    bytes.iter().rev().take_while(|b| **b == b' ').count()
-}
 
 /// What stands before and behind the first of these bytes, where there is one.
 pub fn split_once(bytes: &[u8], byte: u8) -> Option<(&[u8], &[u8])>

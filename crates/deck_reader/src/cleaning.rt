@@ -1,7 +1,7 @@
 ghost use Rattle.std.specs.Prelude.{◌≡◌, ◌==◌, ◌≤◌, ◌∷◌, ◌++◌, if◌then◌else◌, length, OnOk};
 ghost use Rattle.deck_reader.specs.Cards.{without_return, without_tabs, with_tildes, cleaned};
 
-use crate::bytes::without_blanks;
+use short_text::without_blanks;
 use std::alloc::AllocError;
 
 /// Puts the card of a piece into `card`, in place of what stood there: the piece without a carriage return at its end,

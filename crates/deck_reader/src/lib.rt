@@ -12,12 +12,10 @@ mod listed;
 mod open_job;
 mod reader;
 mod reading;
-mod short;
 
-pub use batch::{Account, Batch, Flaw, Job};
-pub use bytes::{split_once, without_blanks};
+pub use batch::{Account, Batch, Card, Flaw, Job, Name};
+pub use bytes::split_once;
 pub use charges::{Counts, charge_of, reserve_of};
 pub use laws::{account_card_by_parts, job_card_by_parts, pieces_joined};
 pub use listed::Listed;
 pub use reader::{FeedError, Reader};
-pub use short::{Card, Name, Short};

@@ -1,8 +1,10 @@
 ghost use Rattle.std.specs.Prelude.{◌≡◌, ◌++◌, OnOk, decimal};
-ghost use Rattle.algolw_meaning.specs.Texts.{right, line, source_line, sum_line};
+ghost use Rattle.short_text.specs.Blanks.{right};
+ghost use Rattle.algolw_meaning.specs.Texts.{line, source_line, sum_line};
 
-use deck_reader::{Counts, charge_of, without_blanks};
+use deck_reader::{Counts, charge_of};
 use itoa::Buffer;
+use short_text::without_blanks;
 use std::alloc::{AllocError, Global};
 
 /// The columns of a card's number, of a count, and of an INTEGER that is printed.

@@ -1,10 +1,9 @@
 -- What is known of the bytes read and written, and of the cause of an answer.
-use Rattle.std.proofs.Common.{ℕ, [], inl, append-nil, ◌≡◌, ◌⊎◌, ◌+◌, ◌-◌, List, ◌++◌, Option, Some, None, Result, Ok, Err, true, false, length, take, drop, refl, ap, ◌∙◌, inr, arith, OnErr, IfSome, IsErrAnd, IsErrOf}
+use Rattle.std.proofs.Common.{ℕ, [], inl, append-nil, ◌≡◌, ◌⊎◌, ◌+◌, ◌-◌, List, ◌++◌, Option, Some, None, Result, Ok, Err, true, false, length, take, drop, refl, ap, ◌∙◌, inr, OnErr, IfSome, IsErrAnd, IsErrOf}
 use Rattle.std.specs.Io.KnownBytes.{Appends, Consumes}
 use Rattle.std.proofs.KnownBytes.{Appends-trans, Appends-nil}
 use Rattle.std.proofs.Math.Seq.{take-add}
-use Rattle.std.proofs.lemmas.Bool.Decides.{nat_tests}
-use Rattle.std.proofs.lemmas.List.{take_rest, length-append}
+use Rattle.std.proofs.lemmas.List.{take_rest}
 use Rattle.deck_reader.specs.Batch.{passes, too_large}
 use Rattle.deck_reader.proofs.Limits.{passes_more}
 use Rattle.monitor.specs.declared.stop.Stop.{Stop}

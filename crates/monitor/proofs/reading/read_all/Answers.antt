@@ -1,4 +1,4 @@
-use Rattle.std.proofs.Common.{◌≡◌, ◌≤◌, ◌+◌, ◌++◌, length, take, arith, ap, ◌∙◌, Err, inl}
+use Rattle.std.proofs.Common.{◌++◌, take, arith, ap, ◌∙◌, Err, inl}
 use Rattle.std.proofs.KnownBytes.{Consumes-trans}
 use Rattle.std.proofs.lemmas.List.{length-append}
 use Rattle.monitor.proofs.Known.{read_at_err, large_error}
