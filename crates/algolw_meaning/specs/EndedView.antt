@@ -1,7 +1,7 @@
 -- A job that has ended, as contracts see it.
 use Rattle.std.specs.Prelude.{ℕ, List}
 use Rattle.deck_reader.specs.JobView.{JobView}
-use Rattle.deck_reader.specs.declared.charges.Counts.{Counts}
+use Rattle.account_book.specs.declared.charges.Counts.{Counts}
 use Rattle.algolw_meaning.specs.declared.ending.Ending.{Ending}
 
 pub record EndedView : Type 0 where

@@ -1,7 +1,7 @@
 -- What a job without a flaw gives.
 use Rattle.std.specs.Prelude.{ℕ, nat_le, if◌then◌else◌, List, [], ◌∷◌, ◌++◌, codes, decimal, Option, Some, None}
 use Rattle.deck_reader.specs.JobView.{JobView}
-use Rattle.deck_reader.specs.declared.charges.Counts.{Counts}
+use Rattle.account_book.specs.declared.charges.Counts.{Counts}
 use Rattle.short_text.specs.Blanks.{right}
 use Rattle.algolw_meaning.specs.Texts.{line, source_line, source_lines, sum_line}
 use Rattle.algolw_meaning.specs.Sums.{sum_of_deck}

@@ -1,8 +1,8 @@
 -- The lines of a section.
 use Rattle.std.specs.Prelude.{ℕ, ◌+◌, List, [], ◌∷◌, ◌++◌, decimal, codes}
 use Rattle.short_text.specs.Blanks.{trimmed, right}
-use Rattle.deck_reader.specs.Charges.{charge}
-use Rattle.deck_reader.specs.declared.charges.Counts.{Counts}
+use Rattle.account_book.specs.Charges.{charge}
+use Rattle.account_book.specs.declared.charges.Counts.{Counts}
 
 -- a text and a line feed
 abbrev pub line : List ℕ → List ℕ

@@ -2,7 +2,8 @@ ghost use Rattle.std.specs.Prelude.{◌≡◌};
 ghost use Rattle.algolw_meaning.specs.Meaning.{job_result};
 
 use crate::ending::Ending;
-use deck_reader::{Counts, Job};
+use account_book::Counts;
+use deck_reader::Job;
 use std::marker::Model;
 use std::sync::Arc;
 

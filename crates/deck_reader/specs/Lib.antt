@@ -5,6 +5,5 @@ pub mod CardForms
 pub mod CardFlaws
 pub mod JobView
 pub mod Batch
-pub mod Charges
 pub mod Reading
 pub mod Fed

@@ -11,7 +11,7 @@ use std::alloc::AllocError;
 const MOST_ACCOUNTS: usize = 500;
 
 /// The number of the account with this name.
-pub fn find(accounts: &[Account], name: &[u8]) -> Option<u32>
+pub fn find_account(accounts: &[Account], name: &[u8]) -> Option<u32>
     requires { length accounts.now ≤ 500 }
     ensures { result ≡ account_of accounts.now name.now }
 {

@@ -26,7 +26,7 @@ pub enum Flaw {
 }
 
 /// An account, as its card opened it.
-#[derive(Drop)]
+#[derive(Clone, Copy)]
 pub struct Account {
     /// A capital letter and at most 7 more capitals or digits, whatever the card's case of letters.
     pub name: Name,

@@ -4,7 +4,6 @@
 mod accounts;
 mod batch;
 mod bytes;
-mod charges;
 mod cleaning;
 mod forms;
 mod laws;
@@ -13,9 +12,9 @@ mod open_job;
 mod reader;
 mod reading;
 
+pub use accounts::find_account;
 pub use batch::{Account, Batch, Card, Flaw, Job, Name};
 pub use bytes::split_once;
-pub use charges::{Counts, charge_of, reserve_of};
 pub use laws::{account_card_by_parts, job_card_by_parts, pieces_joined};
 pub use listed::Listed;
 pub use reader::{FeedError, Reader};

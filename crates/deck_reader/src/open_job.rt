@@ -211,7 +211,7 @@ fn account_for(accounts: &[Account], card: &Option<JobCard>) -> Option<u32>
 {
     match card {
         None => None,
-        Some(card) => accounts::find(accounts, card.account.as_slice()),
+        Some(card) => accounts::find_account(accounts, card.account.as_slice()),
     }
 }
 

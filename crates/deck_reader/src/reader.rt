@@ -1,4 +1,4 @@
-ghost use Rattle.std.specs.Prelude.{◌≡◌, ◌<◌, ◌^◌, ◌++◌, ◌∷◌, [], List, ℕ, true, false, None, Some, IfOk, IfErr, OnOk, IsErrOf, length};
+ghost use Rattle.std.specs.Prelude.{◌≡◌, ◌≤◌, ◌<◌, ◌^◌, ◌++◌, ◌∷◌, [], List, ℕ, true, false, None, Some, IfOk, IfErr, OnOk, IsErrOf, length};
 ghost use Rattle.deck_reader.specs.Batch.{batch, passes, too_large};
 
 use crate::batch::Batch;
@@ -90,6 +90,7 @@ impl Reader {
     /// The batch of all bytes fed.
     pub fn finish(mut self) -> Result<Batch, FeedError>
         ensures batch { (input : List ℕ) → StandsFor self input → IfOk result (λ b. b ≡ batch input) }
+        ensures few { IfOk result (λ b. length b.accounts ≤ 500) }
         ensures fits { (input : List ℕ) → StandsFor self input → OnOk result (too_large input ≡ false) }
         ensures large { (input : List ℕ) → StandsFor self input → IsErrOf result FeedError.TooLarge → too_large input ≡ true }
         ensures kept { (e : FeedError) → refusal self ≡ Some e → result ≡ Err e }

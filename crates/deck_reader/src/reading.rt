@@ -111,7 +111,8 @@ impl Reading {
 
     /// The batch, whose cards have all come.
     pub fn finish(mut self, alloc: Global) -> Result<Batch, AllocError>
-        ensures { (cards : List (List ℕ)) → IsReading self cards → IfOk result (λ b. b ≡ batch_of cards) }
+        ensures batch { (cards : List (List ℕ)) → IsReading self cards → IfOk result (λ b. b ≡ batch_of cards) }
+        ensures few { IfOk result (λ b. length b.accounts ≤ 500) }
     {
         self.close_job(alloc)?;
         Ok(Batch {

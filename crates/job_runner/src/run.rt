@@ -1,12 +1,13 @@
 ghost use Rattle.std.specs.Prelude.{◌≡◌, ◌≤◌, ◌++◌, None, IfOk, OnOk, length};
-ghost use Rattle.deck_reader.specs.Charges.{charge, reserve};
+ghost use Rattle.account_book.specs.Charges.{charge, reserve};
 ghost use Rattle.algolw_meaning.specs.Texts.{source_lines};
 ghost use Rattle.algolw_meaning.specs.Meaning.{ran_body, diagnosed_body};
 
 use crate::deck::{SUM_STEPS, sum_of_job};
 use crate::text;
+use account_book::Counts;
 use algolw_meaning::{Ended, Ending};
-use deck_reader::{Card, Counts, Job};
+use deck_reader::{Card, Job};
 use std::alloc::{AllocError, Global};
 use std::sync::Arc;
 

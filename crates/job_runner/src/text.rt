@@ -2,7 +2,7 @@ ghost use Rattle.std.specs.Prelude.{◌≡◌, ◌++◌, OnOk, decimal};
 ghost use Rattle.short_text.specs.Blanks.{right};
 ghost use Rattle.algolw_meaning.specs.Texts.{line, source_line, sum_line};
 
-use deck_reader::{Counts, charge_of};
+use account_book::{Counts, charge_of};
 use itoa::Buffer;
 use short_text::without_blanks;
 use std::alloc::{AllocError, Global};

@@ -3,18 +3,19 @@ use Rattle.std.proofs.Common.{◌≡◌, ◌≢◌, ℕ, suc, ◌+◌, ◌-◌, 
 use Rattle.std.specs.List.{enumerate_from}
 use Rattle.std.proofs.lemmas.Bool.Decides.{nat_tests}
 use Rattle.std.proofs.lemmas.Bool.{cases_lt}
-use Rattle.std.proofs.lemmas.List.{get_or-set_same, get_or-set_other, set_past, get_or_past, map-append, length-append}
+use Rattle.std.proofs.lemmas.List.{get_or-set_same, get_or-set_other, set_past, get_or_past, map-append, length-append, length-map, length-set}
 use Rattle.std.proofs.lemmas.List.Sums.{fold_push}
 use Rattle.std.proofs.Math.Seq.{take-append_seam}
 use Rattle.deck_reader.specs.declared.batch.Account.{Account}
 use Rattle.deck_reader.specs.declared.batch.Flaw.{Flaw}
 use Rattle.deck_reader.specs.JobView.{JobView}
-use Rattle.deck_reader.specs.Charges.{charge, reserve}
+use Rattle.account_book.specs.Charges.{charge, reserve}
 use Rattle.algolw_meaning.specs.Meaning.{job_result}
 use Rattle.monitor.specs.declared.decision.Decision.{Decision}
-use Rattle.monitor.specs.declared.decision.Decision.TheVariants.{Short, Accepted}
-use Rattle.monitor.specs.Places.{place_balance, charged, account_by, after}
-use Rattle.monitor.specs.Listing.{decision_by, section, section_with, sections, body, openings_of, listing_of}
+use Rattle.monitor.specs.declared.decision.Decision.TheVariants.{Flawed, Short, Accepted}
+use Rattle.account_book.specs.BookView.{openings_of}
+use Rattle.account_book.specs.Places.{place_balance, account_by, after}
+use Rattle.monitor.specs.Listing.{decision, decision_by, section, section_with, sections, body, charged, listing_of}
 use Rattle.monitor.specs.Texts.{heading, title, closing_line, closing}
 use Rattle.monitor.specs.Table.{settled_by, settled, sections_from, settled_all, balance_lines}
 
@@ -106,10 +107,21 @@ lines_are (account ∷ accounts) (balance ∷ balances) f n len is =
     ∙ ap (λ (text : List ℕ). closing_line account (f n) ++ text)
     (lines_are accounts balances f (n + 1) len' (λ k. let past : n + suc k ≡ n + 1 + k = omega arith in is (suc k) ∙ ap f past))
 
-pub listing_by_table : (accounts : List Account) (jobs : List JobView) (stray : ℕ) → length (settled_all (openings_of accounts) jobs) ≡ length accounts
+length-settled_by : (decision : Decision) (balances : List ℕ) (job : JobView) → length (settled_by decision balances job) ≡ length balances
+length-settled_by (Flawed flaw) balances job = refl
+length-settled_by (Short reserve balance) balances job = refl
+length-settled_by (Accepted account) balances job = length-set balances account (slice_index balances account - charge (job_result job).counts)
+
+length-settled_all : (balances : List ℕ) (jobs : List JobView) → length (settled_all balances jobs) ≡ length balances
+length-settled_all balances [] = refl
+length-settled_all balances (job ∷ jobs) =
+    length-settled_all (settled balances job) jobs ∙ length-settled_by (decision (slice_index balances) job) balances job
+
+pub listing_by_table : (accounts : List Account) (jobs : List JobView) (stray : ℕ)
     → heading ++ sections_from (openings_of accounts) jobs ++ closing (balance_lines accounts (settled_all (openings_of accounts) jobs)) stray ≡ listing_of (record { accounts = accounts; jobs = jobs; stray = stray })
-listing_by_table accounts jobs stray len =
+listing_by_table accounts jobs stray =
     let openings = openings_of accounts in
+    let len = length-settled_all openings jobs ∙ length-map accounts (λ (a : Account). a.opening) in
     let opened : AtPlace openings [] openings = record { same = λ account. refl } in
     ap (λ (text : List ℕ). heading ++ text ++ closing (balance_lines accounts (settled_all openings jobs)) stray) (sections_are openings [] openings jobs opened)
     ∙ ap (λ (lines : List ℕ). heading ++ sections openings jobs ++ closing lines stray)

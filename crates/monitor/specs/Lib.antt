@@ -1,4 +1,3 @@
-pub mod Places
 pub mod Texts
 pub mod Listing
 pub mod Table

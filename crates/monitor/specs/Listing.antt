@@ -6,11 +6,12 @@ use Rattle.deck_reader.specs.declared.batch.Batch.{Batch}
 use Rattle.deck_reader.specs.declared.batch.Flaw.{Flaw}
 use Rattle.deck_reader.specs.JobView.{JobView}
 use Rattle.deck_reader.specs.Batch.{batch}
-use Rattle.deck_reader.specs.Charges.{reserve}
+use Rattle.account_book.specs.Charges.{charge, reserve}
 use Rattle.algolw_meaning.specs.Meaning.{job_result}
 use Rattle.monitor.specs.declared.decision.Decision.{Decision}
 use Rattle.monitor.specs.declared.decision.Decision.TheVariants.{Flawed, Short, Accepted}
-use Rattle.monitor.specs.Places.{place_balance, charged}
+use Rattle.account_book.specs.BookView.{openings_of}
+use Rattle.account_book.specs.Places.{Claim, claim_of, place_balance}
 use Rattle.monitor.specs.Texts.{heading, title, flawed_line, short_line, closing_line, closing}
 
 abbrev pub decision_by : Option Flaw → Option ℕ → ℕ → (ℕ → ℕ) → Decision
@@ -31,6 +32,10 @@ body (Accepted account) job = (job_result job).body
 abbrev pub section_with : (ℕ → ℕ) → JobView → List ℕ
 section_with balance job = title job ++ body (decision balance job) job
 
+-- a job's claim, and its charge where it is accepted
+abbrev pub charged : JobView → Claim × ℕ
+charged job = (claim_of job, charge (job_result job).counts)
+
 -- the section of a job at its place, behind these jobs
 abbrev pub section : List ℕ → List JobView → JobView → List ℕ
 section openings earlier job = section_with (place_balance openings (map charged earlier)) job
@@ -42,9 +47,6 @@ sections openings jobs = flat_map (λ p. section openings (take p.0 jobs) p.1) (
 -- a line for each account, with its balance behind all jobs
 abbrev pub closing_lines : List ℕ → List JobView → List Account → List ℕ
 closing_lines openings jobs accounts = flat_map (λ p. closing_line p.1 (place_balance openings (map charged jobs) p.0)) (enumerate_from 0 accounts)
-
-abbrev pub openings_of : List Account → List ℕ
-openings_of accounts = map (λ a. a.opening) accounts
 
 abbrev pub listing_of : Batch → List ℕ
 listing_of b =

@@ -2,7 +2,7 @@
 use Rattle.std.specs.Prelude.{ℕ, ◌-◌, List, [], ◌∷◌, ◌++◌, slice_index, slice_set}
 use Rattle.deck_reader.specs.declared.batch.Account.{Account}
 use Rattle.deck_reader.specs.JobView.{JobView}
-use Rattle.deck_reader.specs.Charges.{charge}
+use Rattle.account_book.specs.Charges.{charge}
 use Rattle.algolw_meaning.specs.Meaning.{job_result}
 use Rattle.monitor.specs.declared.decision.Decision.{Decision}
 use Rattle.monitor.specs.declared.decision.Decision.TheVariants.{Flawed, Short, Accepted}

@@ -2,22 +2,17 @@ ghost use Rattle.std.specs.Prelude.{◌≡◌, ◌++◌, OnOk, length};
 ghost use Rattle.monitor.specs.Texts.{closing_title, closing_line, stray_line, closing};
 ghost use Rattle.monitor.specs.Table.{balance_lines};
 
+use account_book::Book;
 use deck_reader::Account;
 use job_runner::{push_line, push_number};
 use std::alloc::AllocError;
 
 /// Adds the closing lines: each account with its balance, and the number of stray cards.
-pub fn push_closing(
-    out: &mut Vec<u8>,
-    accounts: &[Account],
-    balances: &[u64],
-    stray: u32,
-) -> Result<(), AllocError>
-    requires { length balances.now ≡ length accounts.now }
-    ensures { OnOk result (out.new.items ≡ out.old.items ++ closing (balance_lines accounts.now balances.now) stray) }
+pub fn push_closing(out: &mut Vec<u8>, book: &Book, stray: u32) -> Result<(), AllocError>
+    ensures { OnOk result (out.new.items ≡ out.old.items ++ closing (balance_lines book.now.accounts book.now.balances) stray) }
 {
     push_closing_title(out)?;
-    push_balances(out, accounts, balances)?;
+    push_balances(out, book.accounts(), book.balances())?;
     push_stray(out, stray)
 }
 

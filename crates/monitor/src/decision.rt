@@ -1,9 +1,9 @@
 ghost use Rattle.std.specs.Prelude.{◌≡◌, ◌≤◌, ℕ, slice_index};
-ghost use Rattle.deck_reader.specs.Charges.{reserve};
+ghost use Rattle.account_book.specs.Charges.{reserve};
 ghost use Rattle.monitor.specs.Listing.{decision};
 
-use crate::book::Book;
-use deck_reader::{Flaw, Job, reserve_of};
+use account_book::{Book, reserve_of};
+use deck_reader::{Flaw, Job};
 
 /// What is decided of a job at its place.
 #[derive(Clone, Copy, Debug, PartialEq, Eq)]
@@ -18,8 +18,8 @@ pub enum Decision {
 
 /// The decision on a job where these are the balances.
 pub fn decide(book: &Book, job: &Job) -> Decision
-    ensures decision { result ≡ decision (slice_index book.now) job.now }
-    ensures covered { (account : ℕ) → result ≡ Decision.Accepted account → reserve job.now ≤ slice_index book.now account }
+    ensures decision { result ≡ decision (slice_index book.now.balances) job.now }
+    ensures covered { (account : ℕ) → result ≡ Decision.Accepted account → reserve job.now ≤ slice_index book.now.balances account }
 {
     let reserve = reserve_of(job);
     match (job.flaw, job.account) {

@@ -1,16 +1,17 @@
-ghost use Rattle.std.specs.Prelude.{◌≡◌, ◌++◌, IfOk, OnOk};
+ghost use Rattle.std.specs.Prelude.{◌≡◌, ◌≤◌, ◌++◌, IfOk, OnOk, length};
 ghost use Rattle.monitor.specs.Texts.{heading};
 ghost use Rattle.monitor.specs.Listing.{listing_of};
 
-use crate::book::Book;
 use crate::closing::push_closing;
 use crate::sections::make_sections;
+use account_book::Book;
 use deck_reader::Batch;
 use job_runner::push_line;
 use std::alloc::{AllocError, Global};
 
 /// The listing of a batch: the heading, each job's section, and the closing lines.
 pub fn make_listing(alloc: Global, batch: Batch) -> Result<Vec<u8>, AllocError>
+    requires { length batch.accounts ≤ 500 }
     ensures { IfOk result (λ v. v.items ≡ listing_of batch) }
 {
     let Batch {
@@ -23,7 +24,7 @@ pub fn make_listing(alloc: Global, batch: Batch) -> Result<Vec<u8>, AllocError>
     push_heading(&mut out)?;
     let sections = make_sections(alloc, &mut book, jobs.into_vec())?;
     out.extend_from_slice(sections.as_slice())?;
-    push_closing(&mut out, accounts.as_slice(), book.balances(), stray)?;
+    push_closing(&mut out, &book, stray)?;
     Ok(out)
 }
 

@@ -1,7 +1,6 @@
 // Reads a batch of cards from standard input, runs its jobs, and writes the listing to standard output.
 #![tactic(auto)]
 
-mod book;
 mod closing;
 mod decision;
 mod listing;

@@ -1,20 +1,20 @@
-ghost use Rattle.std.specs.Prelude.{◌≡◌, ◌++◌, OnOk, IfOk, length, slice_index};
+ghost use Rattle.std.specs.Prelude.{◌≡◌, ◌++◌, OnOk, IfOk, slice_index};
 ghost use Rattle.monitor.specs.Texts.{flaw_text, title, flawed_line, short_line};
 ghost use Rattle.monitor.specs.Listing.{section_with};
 ghost use Rattle.monitor.specs.Table.{settled, sections_from, settled_all};
 
-use crate::book::Book;
 use crate::decision::{Decision, decide};
-use deck_reader::{Flaw, Job, charge_of};
+use account_book::{Book, charge_of};
+use deck_reader::{Flaw, Job};
 use job_runner::{Desk, push_line, push_number, run_job};
 use std::alloc::{AllocError, Global};
 use std::sync::Arc;
 
 /// The sections of the jobs, in order. The book settles what they cost.
 pub fn make_sections(alloc: Global, book: &mut Book, jobs: Vec<Job>) -> Result<Vec<u8>, AllocError>
-    ensures text { IfOk result (λ v. v.items ≡ sections_from book.old jobs.items) }
-    ensures book { OnOk result (book.new ≡ settled_all book.old jobs.items) }
-    ensures len { length book.new ≡ length book.old }
+    ensures text { IfOk result (λ v. v.items ≡ sections_from book.old.balances jobs.items) }
+    ensures book { OnOk result (book.new.balances ≡ settled_all book.old.balances jobs.items) }
+    ensures accounts { book.new.accounts ≡ book.old.accounts }
 {
     let mut desk = Desk::new()?;
     let mut out = Vec::new(alloc);
@@ -33,9 +33,9 @@ fn make_section(
     desk: &mut Desk,
     job: &Arc<Job>,
 ) -> Result<Vec<u8>, AllocError>
-    ensures text { IfOk result (λ v. v.items ≡ section_with (slice_index book.old) job.now.value) }
-    ensures book { OnOk result (book.new ≡ settled book.old job.now.value) }
-    ensures len { length book.new ≡ length book.old }
+    ensures text { IfOk result (λ v. v.items ≡ section_with (slice_index book.old.balances) job.now.value) }
+    ensures book { OnOk result (book.new.balances ≡ settled book.old.balances job.now.value) }
+    ensures accounts { book.new.accounts ≡ book.old.accounts }
 {
     let mut out = Vec::new(alloc);
     push_title(&mut out, job)?;

@@ -1,7 +1,7 @@
 ghost use Rattle.std.specs.Prelude.{◌≡◌};
-ghost use Rattle.deck_reader.specs.Charges.{charge, reserve};
+ghost use Rattle.account_book.specs.Charges.{charge, reserve};
 
-use crate::batch::Job;
+use deck_reader::Job;
 
 /// What a job used.
 #[derive(Clone, Copy, Debug, PartialEq, Eq)]

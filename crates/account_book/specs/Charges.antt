@@ -1,6 +1,6 @@
 -- What a job costs.
 use Rattle.std.specs.Prelude.{ℕ, ◌+◌, ◌*◌, ◌/◌}
-use Rattle.deck_reader.specs.declared.charges.Counts.{Counts}
+use Rattle.account_book.specs.declared.charges.Counts.{Counts}
 use Rattle.deck_reader.specs.JobView.{JobView}
 
 -- one for each card, one for each hundred steps begun, and two for each line

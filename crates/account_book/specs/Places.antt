@@ -2,8 +2,7 @@
 use Rattle.std.specs.Prelude.{ℕ, ◌-◌, Bool, false, ◌&&◌, ◌==◌, nat_le, if◌then◌else◌, List, Option, Some, None, fold, slice_index}
 use Rattle.deck_reader.specs.declared.batch.Flaw.{Flaw}
 use Rattle.deck_reader.specs.JobView.{JobView}
-use Rattle.deck_reader.specs.Charges.{charge, reserve}
-use Rattle.algolw_meaning.specs.Meaning.{job_result}
+use Rattle.account_book.specs.Charges.{reserve}
 
 -- the account that is to pay, where there is one, and the most that it is to pay
 pub record Claim : Type 0 where
@@ -38,7 +37,3 @@ account_by None account = account
 -- the claim of a job: that of its account, where it has no flaw
 abbrev pub claim_of : JobView → Claim
 claim_of job = record { account = account_by job.flaw job.account; reserve = reserve job }
-
--- a job's claim, and its charge where it is accepted
-abbrev pub charged : JobView → Claim × ℕ
-charged job = (claim_of job, charge (job_result job).counts)

@@ -1,0 +1,4 @@
+pub mod Charges
+pub mod BookView
+pub mod Places
+pub mod Laws

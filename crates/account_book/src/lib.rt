@@ -1,0 +1,10 @@
+// The accounts of a batch: what jobs cost, and what is left.
+#![tactic(auto)]
+
+mod book;
+mod charges;
+mod laws;
+
+pub use book::Book;
+pub use charges::{Counts, charge_of, reserve_of};
+pub use laws::charge_within;
