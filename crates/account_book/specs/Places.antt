@@ -1,5 +1,5 @@
 -- The money of a batch: what is left of each account at each place.
-use Rattle.std.specs.Prelude.{ℕ, ◌-◌, Bool, false, ◌&&◌, ◌==◌, nat_le, if◌then◌else◌, List, Option, Some, None, fold, slice_index}
+use Rattle.std.specs.Prelude.{ℕ, ◌-◌, Bool, false, ◌&&◌, ◌==◌, nat_le, if◌then◌else◌, List, Option, Some, None, fold, slice_index, slice_set}
 use Rattle.deck_reader.specs.declared.batch.Flaw.{Flaw}
 use Rattle.deck_reader.specs.JobView.{JobView}
 use Rattle.account_book.specs.Charges.{reserve}
@@ -29,6 +29,19 @@ after account balance (claim, charge) = if is_on account claim.account && is_acc
 -- the balance of an account at the place behind these claims, each with its charge: the opening less the charges of the accepted claims on it
 abbrev pub place_balance : List ℕ → List (Claim × ℕ) → ℕ → ℕ
 place_balance openings claims account = fold (after account) (slice_index openings account) claims
+
+-- a table of balances in which one account has paid
+abbrev pub lowered : List ℕ → Option ℕ → ℕ → List ℕ
+lowered balances None charge = balances
+lowered balances (Some account) charge = slice_set balances account (slice_index balances account - charge)
+
+-- the table behind a claim and its charge
+abbrev pub settled : List ℕ → Claim × ℕ → List ℕ
+settled balances (claim, charge) = if is_accepted (slice_index balances) claim then lowered balances claim.account charge else balances
+
+-- the table behind these claims, each with its charge
+abbrev pub balances_behind : List ℕ → List (Claim × ℕ) → List ℕ
+balances_behind openings claims = fold settled openings claims
 
 abbrev pub account_by : Option Flaw → Option ℕ → Option ℕ
 account_by (Some flaw) account = None

@@ -7,4 +7,4 @@ mod laws;
 
 pub use book::Book;
 pub use charges::{Counts, charge_of, reserve_of};
-pub use laws::charge_within;
+pub use laws::{charge_within, table_by_places};

@@ -7,3 +7,5 @@ pub mod JobView
 pub mod Batch
 pub mod Reading
 pub mod Fed
+pub mod JobEquality
+pub mod JobEqualityLaws

@@ -86,6 +86,39 @@ impl Model for Job {
         × (list_any is_long j.data_cards ≡ false) × (list_any is_foul j.data_cards ≡ false)) };
 }
 
+/// Equal where all their parts are.
+impl PartialEq for Job {
+    ghost use Rattle.std.specs.Cmp.{decided, partial_equiv_from_equiv};
+    ghost use Rattle.deck_reader.specs.JobEquality.{job_eq};
+    ghost use Rattle.deck_reader.specs.JobEqualityLaws.{equal_jobs_are_same};
+
+    ghost eq = { job_eq };
+
+    ghost laws = { partial_equiv_from_equiv (decided job_eq equal_jobs_are_same) };
+
+    #[tactic(auto, unfolding(crate::specs::JobEquality::job_eq))]
+    fn eq(&self, other: &Job) -> bool {
+        self.number == other.number
+            && self.name == other.name
+            && self.account_name == other.account_name
+            && self.account == other.account
+            && self.deck == other.deck
+            && self.data_cards == other.data_cards
+            && self.steps == other.steps
+            && self.lines == other.lines
+            && self.cards == other.cards
+            && self.flaw == other.flaw
+    }
+}
+
+impl Eq for Job {
+    ghost use Rattle.std.specs.Cmp.{decided};
+    ghost use Rattle.deck_reader.specs.JobEquality.{job_eq};
+    ghost use Rattle.deck_reader.specs.JobEqualityLaws.{equal_jobs_are_same};
+
+    ghost laws = { decided job_eq equal_jobs_are_same };
+}
+
 /// What a whole input is.
 #[derive(Drop)]
 pub struct Batch {

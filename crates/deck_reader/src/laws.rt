@@ -1,5 +1,6 @@
 ghost use Rattle.deck_reader.specs.CardForms.{JobCardByParts, AccountCardByParts};
 ghost use Rattle.deck_reader.specs.CardLaws.{PiecesJoined};
+ghost use Rattle.deck_reader.specs.JobEquality.{EqualJobsAreSame};
 
 /// A card gives a job's parts exactly where it is a job card with these parts.
 pub fn job_card_by_parts()
@@ -14,4 +15,9 @@ pub fn account_card_by_parts()
 /// The pieces, put together with line feeds, are the input again.
 pub fn pieces_joined()
     ensures { PiecesJoined }
+{}
+
+/// Two jobs are equal exactly where they are the same.
+pub fn equal_jobs_are_same()
+    ensures { EqualJobsAreSame }
 {}

@@ -15,6 +15,6 @@ mod reading;
 pub use accounts::find_account;
 pub use batch::{Account, Batch, Card, Flaw, Job, Name};
 pub use bytes::split_once;
-pub use laws::{account_card_by_parts, job_card_by_parts, pieces_joined};
+pub use laws::{account_card_by_parts, equal_jobs_are_same, job_card_by_parts, pieces_joined};
 pub use listed::Listed;
 pub use reader::{FeedError, Reader};

@@ -11,22 +11,35 @@ use deck_reader::{Card, Job};
 use std::alloc::{AllocError, Global};
 use std::sync::Arc;
 
-/// A place to run jobs at, one after the other.
+/// A place to run jobs at, one after the other. It keeps what the last one took.
 #[derive(Drop)]
-pub struct Desk {}
+pub struct Desk {
+    steps: u32,
+}
 
 impl Desk {
-    /// A desk that was never used.
-    pub fn new() -> Result<Desk, AllocError> {
-        Ok(Desk {})
+    /// A desk at which no job was run.
+    pub fn new() -> Result<Desk, AllocError>
+        ensures { IfOk result (λ desk. desk.steps ≡ 0) }
+    {
+        Ok(Desk { steps: 0 })
+    }
+
+    /// The steps that the last job took.
+    pub fn steps(&self) -> u32
+        ensures { result ≡ self.now.steps }
+    {
+        self.steps
     }
 }
 
-/// Runs a job without a flaw. Its charge is at most its reserve.
-pub fn run_job(alloc: Global, _desk: &mut Desk, job: &Arc<Job>) -> Result<Ended, AllocError>
+/// Runs a job without a flaw at a desk, which then has the job's steps. The job's charge is at most its reserve. Where
+/// memory is wanting, the desk may be used again.
+pub fn run_job(alloc: Global, desk: &mut Desk, job: &Arc<Job>) -> Result<Ended, AllocError>
     requires { job.now.value.flaw ≡ None }
     ensures same { IfOk result (λ e. e.job ≡ job.now.value) }
     ensures within { IfOk result (λ e. charge e.counts ≤ reserve e.job) }
+    ensures steps { IfOk result (λ e. desk.new.steps ≡ e.counts.steps) }
 {
     let of: &Job = job;
     match sum_of_job(alloc, job)? {
@@ -37,6 +50,7 @@ pub fn run_job(alloc: Global, _desk: &mut Desk, job: &Arc<Job>) -> Result<Ended,
                 lines: 1,
             };
             let body = write_ran(alloc, card, sum, counts)?;
+            desk.steps = counts.steps;
             Ok(Ended::new(job.clone()?, body, counts, Ending::Normal))
         }
         None => {
@@ -46,6 +60,7 @@ pub fn run_job(alloc: Global, _desk: &mut Desk, job: &Arc<Job>) -> Result<Ended,
                 lines: 0,
             };
             let body = write_diagnosed(alloc, of.deck.as_slice(), counts)?;
+            desk.steps = counts.steps;
             Ok(Ended::new(job.clone()?, body, counts, Ending::Diagnosed))
         }
     }

@@ -1,5 +1,2 @@
-pub mod Texts
-pub mod Listing
-pub mod Table
 pub mod Outcome
 pub mod Status

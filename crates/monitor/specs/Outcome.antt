@@ -1,14 +1,11 @@
 -- What a run has read and written.
-use Rattle.std.specs.Prelude.{ℕ, ◌≡◌, ◌⊎◌, true, false, List, Option, take}
+use Rattle.std.specs.Prelude.{ℕ, ◌≡◌, ◌⊎◌, true, false, List, Option}
 use Rattle.std.specs.Io.KnownBytes.{Consumes, Appends, IsAtEnd}
 use Rattle.deck_reader.specs.declared.reader.Reader.{Reader}
 use Rattle.deck_reader.specs.Fed.{StandsFor}
 use Rattle.deck_reader.specs.Batch.{passes, too_large}
-use Rattle.monitor.specs.Listing.{listing}
-
--- known bytes grow by a prefix of these
-abbrev pub AppendsPrefix : Option (List ℕ) → Option (List ℕ) → List ℕ → Type 0
-AppendsPrefix old new bytes = (n : ℕ) × Appends old new (take n bytes)
+use Rattle.batch_listing.specs.Listing.{listing}
+use Rattle.batch_listing.specs.Writing.{AppendsPrefix}
 
 -- the whole source was read, it wasn't too large, and its listing was written whole
 pub record IsDone (left left' written written' : Option (List ℕ)) : Type 0 where

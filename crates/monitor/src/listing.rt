@@ -1,36 +1,66 @@
-ghost use Rattle.std.specs.Prelude.{◌≡◌, ◌≤◌, ◌++◌, IfOk, OnOk, length};
-ghost use Rattle.monitor.specs.Texts.{heading};
-ghost use Rattle.monitor.specs.Listing.{listing_of};
+ghost use Rattle.std.specs.Prelude.{◌≡◌, ◌≤◌, [], OnOk, OnErr, IsErrOf, length};
+ghost use Rattle.std.specs.Io.KnownBytes.{Appends};
+ghost use Rattle.batch_io.specs.Causes.{Rose};
+ghost use Rattle.account_book.specs.BookView.{openings_of};
+ghost use Rattle.batch_listing.specs.Behind.{IsBehind};
+ghost use Rattle.batch_listing.specs.Listing.{listing_of, sections};
+ghost use Rattle.batch_listing.specs.Writing.{AppendsPrefix};
 
-use crate::closing::push_closing;
-use crate::sections::make_sections;
+use crate::stop::Stop;
 use account_book::Book;
-use deck_reader::Batch;
-use job_runner::push_line;
-use std::alloc::{AllocError, Global};
+use batch_io::Sink;
+use batch_listing::{Audit, heading, write_all_of};
+use deck_reader::{Batch, Job};
+use job_runner::Desk;
+use std::alloc::Global;
+use std::sync::Arc;
 
-/// The listing of a batch: the heading, each job's section, and the closing lines.
-pub fn make_listing(alloc: Global, batch: Batch) -> Result<Vec<u8>, AllocError>
+/// Runs the jobs of a batch and writes its listing: the heading, each section as it is made, and the closing lines.
+pub fn write_listing<K: Sink>(alloc: Global, sink: &mut K, batch: Batch) -> Result<(), Stop>
     requires { length batch.accounts ≤ 500 }
-    ensures { IfOk result (λ v. v.items ≡ listing_of batch) }
+    ensures ok { OnOk result (Appends (K.written sink.old) (K.written sink.new) (listing_of batch)) }
+    ensures err { OnErr result (AppendsPrefix (K.written sink.old) (K.written sink.new) (listing_of batch)) }
+    ensures kept { OnOk result (K.faults sink.new ≡ K.faults sink.old) }
+    ensures write { IsErrOf result Stop.WriteFault → Rose (K.faults sink.old) (K.faults sink.new) }
+    ensures read { IsErrOf result Stop.ReadFault → ⊥ }
+    ensures large { IsErrOf result Stop.TooLarge → ⊥ }
 {
     let Batch {
         accounts,
         jobs,
         stray,
     } = batch;
-    let mut book = Book::open(alloc, accounts.as_slice())?;
-    let mut out = Vec::new(alloc);
-    push_heading(&mut out)?;
-    let sections = make_sections(alloc, &mut book, jobs.into_vec())?;
-    out.extend_from_slice(sections.as_slice())?;
-    push_closing(&mut out, &book, stray)?;
-    Ok(out)
+    let book = Book::open(alloc, accounts.as_slice())?;
+    let mut audit = Audit::new(book)?;
+    write_all_of(sink, heading())?;
+    write_sections(alloc, sink, &mut audit, jobs.into_vec())?;
+    let closing = audit.closing(alloc, stray)?;
+    write_all_of(sink, closing.as_slice())?;
+    Ok(())
 }
 
-#[tactic(auto, unfolding(crate::specs::Texts::heading))]
-fn push_heading(out: &mut Vec<u8>) -> Result<(), AllocError>
-    ensures { OnOk result (out.new.items ≡ out.old.items ++ heading) }
+/// Writes the section of each job, in order.
+fn write_sections<K: Sink>(
+    alloc: Global,
+    sink: &mut K,
+    audit: &mut Audit,
+    jobs: Vec<Job>,
+) -> Result<(), Stop>
+    requires { IsBehind audit.old.book [] }
+    ensures ok { OnOk result (Appends (K.written sink.old) (K.written sink.new) (sections (openings_of audit.old.book.accounts) jobs.items)) }
+    ensures behind { OnOk result (IsBehind audit.new.book jobs.items) }
+    ensures accounts { audit.new.book.accounts ≡ audit.old.book.accounts }
+    ensures err { OnErr result (AppendsPrefix (K.written sink.old) (K.written sink.new) (sections (openings_of audit.old.book.accounts) jobs.items)) }
+    ensures kept { OnOk result (K.faults sink.new ≡ K.faults sink.old) }
+    ensures write { IsErrOf result Stop.WriteFault → Rose (K.faults sink.old) (K.faults sink.new) }
+    ensures read { IsErrOf result Stop.ReadFault → ⊥ }
+    ensures large { IsErrOf result Stop.TooLarge → ⊥ }
 {
-    push_line(out, b"ALGOL W BATCH")
+    let mut desk = Desk::new()?;
+    for job in jobs {
+        let job = Arc::new(alloc, job)?;
+        let section = audit.section(alloc, &job, None, &mut desk)?;
+        write_all_of(sink, section.as_slice())?;
+    }
+    Ok(())
 }

@@ -1,16 +1,12 @@
 // Reads a batch of cards from standard input, runs its jobs, and writes the listing to standard output.
 #![tactic(auto)]
 
-mod closing;
-mod decision;
 mod listing;
 mod reading;
-mod sections;
 mod stop;
 #[cfg(test)]
 mod tests;
 mod top;
-mod writing;
 
 use crate::top::{Status, run_monitor};
 use batch_io::{OpenGate, StdSink, StdSource};

@@ -303,34 +303,120 @@ fn a_batch_has_its_listing(rt: HostRuntime) -> Result<(), Fail> {
     Ok(())
 }
 
+/// The first bytes, so many as there are.
+fn first(bytes: &[u8], count: usize) -> &[u8] {
+    &bytes[..count.min(bytes.len())]
+}
+
+/// The listing of a batch, made with no fault.
+fn listing_of(alloc: Global, input: &[u8]) -> Result<Vec<u8>, AllocError> {
+    let (_, written) = run(alloc, &[], input, &AMPLE)?;
+    Ok(written)
+}
+
+/// The sizes of the pieces in which faults are tried.
+const PIECES: [usize; 2] = [1, 64];
+
 #[test]
-fn a_fault_leaves_a_prefix(rt: HostRuntime) -> Result<(), Fail> {
-    let stopped_source = Outside {
-        source_stop: Some(30),
-        ..AMPLE
-    };
-    let failing_read = Outside {
-        failing_read: Some(3),
-        ..AMPLE
-    };
-    let stopped_sink = Outside {
-        sink_stop: 20,
-        ..AMPLE
-    };
-    let failing_write = Outside {
-        failing_write: Some(3),
-        ..AMPLE
-    };
-    let cases = [
-        (stopped_source, Status::ReadFault, b"".as_slice()),
-        (failing_read, Status::ReadFault, b""),
-        (stopped_sink, Status::WriteFault, b"ALGOL W BATCH\n\nJOB 1"),
-        (failing_write, Status::WriteFault, b"ALGOL W BATCH\n"),
-    ];
-    for (outside, wanted, prefix) in cases {
-        let (status, written) = run(rt.alloc(), &[], SUM, &outside)?;
-        assert_eq!(rt; status, wanted);
-        assert_eq!(rt; written.as_slice(), prefix);
+fn a_stopped_source_leaves_a_prefix_of_the_listing_of_what_it_gave(
+    rt: HostRuntime,
+) -> Result<(), Fail> {
+    for count in 0..=SUM.len() {
+        let given = listing_of(rt.alloc(), first(SUM, count))?;
+        for piece in PIECES {
+            let outside = Outside {
+                piece,
+                source_stop: Some(count as u64),
+                ..AMPLE
+            };
+            let (status, written) = run(rt.alloc(), &[], SUM, &outside)?;
+            assert_eq!(rt; status, Status::ReadFault, "{count}, by {piece}");
+            assert!(rt;
+                given.starts_with(written.as_slice()),
+                "{count}, by {piece}"
+            );
+        }
+    }
+    Ok(())
+}
+
+#[test]
+fn a_stopped_sink_has_just_what_it_took(rt: HostRuntime) -> Result<(), Fail> {
+    for piece in PIECES {
+        for count in 0..1_000_u32 {
+            let outside = Outside {
+                piece,
+                sink_stop: count,
+                ..AMPLE
+            };
+            let (status, written) = run(rt.alloc(), &[], SUM, &outside)?;
+            let taken = first(SUM_LISTING, count as usize);
+            assert_eq!(rt; written.as_slice(), taken, "{count}, by {piece}");
+            if taken.len() == SUM_LISTING.len() {
+                assert_eq!(rt; status, Status::Done, "{count}, by {piece}");
+                break;
+            }
+            assert_eq!(rt; status, Status::WriteFault, "{count}, by {piece}");
+        }
+    }
+    Ok(())
+}
+
+#[test]
+fn each_read_may_fail(rt: HostRuntime) -> Result<(), Fail> {
+    for piece in PIECES {
+        // One read more finds the end.
+        let reads = SUM.chunks(piece).count() + 1;
+        for before in 0..1_000_u32 {
+            let outside = Outside {
+                piece,
+                failing_read: Some(before + 1),
+                ..AMPLE
+            };
+            let (status, written) = run(rt.alloc(), &[], SUM, &outside)?;
+            if before as usize >= reads {
+                assert_eq!(rt; status, Status::Done, "{before}, by {piece}");
+                break;
+            }
+            assert_eq!(rt; status, Status::ReadFault, "{before}, by {piece}");
+            let given = listing_of(rt.alloc(), first(SUM, before as usize * piece))?;
+            assert!(rt;
+                given.starts_with(written.as_slice()),
+                "{before}, by {piece}"
+            );
+        }
+    }
+    Ok(())
+}
+
+#[test]
+fn each_write_may_fail(rt: HostRuntime) -> Result<(), Fail> {
+    for piece in PIECES {
+        let mut longest = 0;
+        for before in 0..1_000_u32 {
+            let outside = Outside {
+                piece,
+                failing_write: Some(before + 1),
+                ..AMPLE
+            };
+            let (status, written) = run(rt.alloc(), &[], SUM, &outside)?;
+            assert!(rt;
+                SUM_LISTING.starts_with(written.as_slice()),
+                "{before}, by {piece}"
+            );
+            if status == Status::Done {
+                assert_eq!(rt; written.len(), SUM_LISTING.len(), "{before}, by {piece}");
+                break;
+            }
+            assert_eq!(rt; status, Status::WriteFault, "{before}, by {piece}");
+            assert!(rt;
+                before == 0 || written.len() > longest,
+                "{before}, by {piece}"
+            );
+            longest = written.len();
+        }
+        let left = SUM_LISTING.len().saturating_sub(longest);
+        assert!(rt; left <= piece, "by {piece}");
     }
     Ok(())
 }

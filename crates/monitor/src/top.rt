@@ -4,10 +4,9 @@ ghost use Rattle.deck_reader.specs.Batch.{too_large};
 ghost use Rattle.monitor.specs.Outcome.{IsDone, IsCutShort, IsTooLarge};
 ghost use Rattle.monitor.specs.Status.{number_of};
 
-use crate::listing::make_listing;
+use crate::listing::write_listing;
 use crate::reading::read_all;
 use crate::stop::Stop;
-use crate::writing::write_all_of;
 use batch_io::{Gate, Sink, Source};
 use std::alloc::Global;
 
@@ -107,7 +106,5 @@ fn run_batch<S: Source, K: Sink>(alloc: Global, src: &mut S, sink: &mut K) -> Re
 {
     let reader = read_all(alloc, src)?;
     let batch = reader.finish()?;
-    let listing = make_listing(alloc, batch)?;
-    write_all_of(sink, listing.as_slice())?;
-    Ok(())
+    write_listing(alloc, sink, batch)
 }

@@ -1,4 +1,7 @@
 ghost use Rattle.std.specs.Prelude.{◌≡◌, ◌+◌, ◌≤◌, ◌++◌, [], length, replicate};
+ghost use Rattle.std.specs.Cmp.{partial_equiv_from_equiv};
+ghost use Rattle.std.specs.Cmp.Lexicographic.{nat_list_eq_equiv};
+ghost use Rattle.std.specs.Str.{bytes_eq};
 
 use std::marker::Model;
 
@@ -78,4 +81,19 @@ impl<const N: usize> Short<N> {
         let bytes = [byte; N];
         self.extend_from_slice(&bytes[..count]);
     }
+}
+
+/// Equal where the bytes held are.
+impl<const N: usize> PartialEq for Short<N> {
+    ghost eq = { bytes_eq };
+
+    ghost laws = { partial_equiv_from_equiv nat_list_eq_equiv };
+
+    fn eq(&self, other: &Short<N>) -> bool {
+        self.as_slice() == other.as_slice()
+    }
+}
+
+impl<const N: usize> Eq for Short<N> {
+    ghost laws = { nat_list_eq_equiv };
 }

@@ -1,7 +1,7 @@
 use Rattle.std.proofs.Common.{◌++◌, take, arith, ap, ◌∙◌, Err, inl}
 use Rattle.std.proofs.KnownBytes.{Consumes-trans}
 use Rattle.std.proofs.lemmas.List.{length-append}
-use Rattle.monitor.proofs.Known.{read_at_err, large_error}
+use Rattle.monitor.proofs.Known.{at_err, large_error}
 use Rattle.deck_reader.specs.declared.reader.FeedError.{FeedError}
 use Rattle.monitor.proofs.reading.read_all.Goals as goal
 
@@ -25,8 +25,8 @@ loop-reader-preserved g c =
 
 pub returns-in_err-feed-clause-some : goal.returns-in_err-feed-clause-some
 returns-in_err-feed-clause-some g c =
-    read_at_err c.from_residual-in_err-feed.result (g.S.Source.left c.args.src.now) (g.S.Source.left c.read.new.self) (c.loop-reader.invariant.0 ++ take c.in_ok-count.count c.read.new.buf)
-    (Consumes-trans _ _ _ _ _ c.loop-reader.invariant.1 c.in_ok-count.ensures.bytes.0)
+    at_err c.from_residual-in_err-feed.result
+    (c.loop-reader.invariant.0 ++ take c.in_ok-count.count c.read.new.buf, Consumes-trans _ _ _ _ _ c.loop-reader.invariant.1 c.in_ok-count.ensures.bytes.0)
 
 pub returns-in_err-feed-clause-large : goal.returns-in_err-feed-clause-large
 returns-in_err-feed-clause-large g c = λ is.

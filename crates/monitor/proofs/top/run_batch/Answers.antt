@@ -1,32 +1,29 @@
-use Rattle.std.proofs.Common.{◌≡◌, ap, ◌∙◌}
-use Rattle.monitor.specs.Listing.{listing, listing_of}
-use Rattle.monitor.proofs.Known.{cut_at_err, nothing_written}
+use Rattle.std.proofs.Common.{subst}
+use Rattle.std.specs.Io.KnownBytes.{Appends}
+use Rattle.deck_reader.specs.declared.batch.Batch.{Batch}
+use Rattle.batch_listing.specs.Listing.{listing_of}
+use Rattle.batch_listing.specs.Writing.{AppendsPrefix}
+use Rattle.monitor.proofs.Known.{if_err, if_ok}
 use Rattle.monitor.proofs.top.run_batch.Goals as goal
-
-pub returns-in_err-listing-clause-cut : goal.returns-in_err-listing-clause-cut
-returns-in_err-listing-clause-cut g c =
-    let written = g.K.Sink.written c.args.sink.now in
-    let input = c.in_ok-reader.ensures.ok.input in
-    cut_at_err c.from_residual-in_err-listing.result (g.S.Source.left c.args.src.now) (g.S.Source.left c.read_all.new.src) written written input
-    c.in_ok-reader.ensures.ok.read
-    (nothing_written written (listing input))
-
-pub returns-in_err-write_all_of-clause-cut : goal.returns-in_err-write_all_of-clause-cut
-returns-in_err-write_all_of-clause-cut g c =
-    let input = c.in_ok-reader.ensures.ok.input in
-    let is : c.as_slice.result.now ≡ listing input = c.as_slice.ensures.value ∙ c.in_ok-listing.ensures ∙ ap listing_of (c.in_ok-batch.ensures.batch input c.in_ok-reader.ensures.ok.stands) in
-    cut_at_err c.from_residual-in_err-write_all_of.result (g.S.Source.left c.args.src.now) (g.S.Source.left c.read_all.new.src) (g.K.Sink.written c.args.sink.now) (g.K.Sink.written c.write_all_of.new.sink) input
-    c.in_ok-reader.ensures.ok.read
-    (rw (← is) c.in_err-write_all_of.ensures.err)
 
 pub returns-clause-done : goal.returns-clause-done
 returns-clause-done g c =
-    let input = c.in_ok-reader.ensures.ok.input in
-    let is : c.as_slice.result.now ≡ listing input = c.as_slice.ensures.value ∙ c.in_ok-listing.ensures ∙ ap listing_of (c.in_ok-batch.ensures.batch input c.in_ok-reader.ensures.ok.stands) in
-    record {
-      input = input;
-      read = c.in_ok-reader.ensures.ok.read;
-      to_end = c.in_ok-reader.ensures.ok.to_end;
-      fits = c.in_ok-batch.ensures.fits input c.in_ok-reader.ensures.ok.stands;
-      wrote = rw (← is) c.in_ok-write_all_of.ensures.ok;
-    }
+    let whole = c.in_ok-reader.ensures.ok in
+    let appends : Batch → Type 0 = λ b. Appends (g.K.Sink.written c.args.sink.now) (g.K.Sink.written c.write_listing.new.sink) (listing_of b) in
+    if_ok c.write_listing.result c.write_listing.ensures.ok (λ wrote. record {
+      input = whole.input;
+      read = whole.read;
+      to_end = whole.to_end;
+      fits = c.in_ok-batch.ensures.fits whole.input whole.stands;
+      wrote = subst appends (c.in_ok-batch.ensures.batch whole.input whole.stands) wrote;
+    })
+
+pub returns-clause-cut : goal.returns-clause-cut
+returns-clause-cut g c =
+    let whole = c.in_ok-reader.ensures.ok in
+    let appends : Batch → Type 0 = λ b. AppendsPrefix (g.K.Sink.written c.args.sink.now) (g.K.Sink.written c.write_listing.new.sink) (listing_of b) in
+    if_err c.write_listing.result c.write_listing.ensures.err (λ wrote. record {
+      input = whole.input;
+      read = whole.read;
+      wrote = subst appends (c.in_ok-batch.ensures.batch whole.input whole.stands) wrote;
+    })

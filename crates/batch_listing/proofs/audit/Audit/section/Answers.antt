@@ -1,0 +1,34 @@
+use Rattle.std.proofs.Common.{◌≡◌, ◌⊎◌, ◌+◌, ◌++◌, ℕ, List, Bool, true, false, min, slice_index, subst, ap, ◌∙◌}
+use Rattle.account_book.specs.BookView.{openings_of}
+use Rattle.batch_listing.specs.Texts.{title}
+use Rattle.batch_listing.specs.Listing.{body, decision}
+use Rattle.batch_listing.specs.Behind.{Fits}
+use Rattle.batch_listing.proofs.Deciding.{accepted_at, section_at}
+use Rattle.batch_listing.proofs.audit.Audit.section.Goals as goal
+
+pub returns-in_err-push_body-clause-spared : goal.returns-in_err-push_body-clause-spared
+returns-in_err-push_body-clause-spared c = λ earlier behind.
+    let openings = openings_of c.args.self.now.book.accounts in
+    let spared : Bool → Type 0 = λ taken. (taken ≡ false) ⊎ Fits c.args.brought c.args.job.now.value → (c.push_body.new.desk ≡ c.args.desk.now) × (c.push_body.new.self.reruns ≡ c.args.self.now.reruns) in
+    subst spared (accepted_at openings c.args.self.now.book.balances earlier c.args.job.now.value behind) c.in_err-push_body.ensures.spared
+
+pub returns-clause-text : goal.returns-clause-text
+returns-clause-text c = λ earlier behind.
+    let openings = openings_of c.args.self.now.book.accounts in
+    let job = c.args.job.now.value in
+    let made = body (decision (slice_index c.args.self.now.book.balances) job) job in
+    c.in_ok-push_body.ensures.text
+    ∙ ap (λ (text : List ℕ). text ++ made) (c.in_ok-push_title.ensures ∙ ap (λ (text : List ℕ). text ++ title c.deref.result.now) c.new-out.ensures.items ∙ ap title c.deref.ensures)
+    ∙ section_at openings c.args.self.now.book.balances earlier job behind
+
+pub returns-clause-spared : goal.returns-clause-spared
+returns-clause-spared c = λ earlier behind.
+    let openings = openings_of c.args.self.now.book.accounts in
+    let spared : Bool → Type 0 = λ taken. (taken ≡ false) ⊎ Fits c.args.brought c.args.job.now.value → (c.push_body.new.desk ≡ c.args.desk.now) × (c.push_body.new.self.reruns ≡ c.args.self.now.reruns) in
+    subst spared (accepted_at openings c.args.self.now.book.balances earlier c.args.job.now.value behind) c.in_ok-push_body.ensures.spared
+
+pub returns-clause-rerun : goal.returns-clause-rerun
+returns-clause-rerun c = λ earlier behind.
+    let openings = openings_of c.args.self.now.book.accounts in
+    let rerun : Bool → Type 0 = λ taken. taken ≡ true → (Fits c.args.brought c.args.job.now.value → ⊥) → c.push_body.new.self.reruns ≡ min (c.args.self.now.reruns + 1) 4294967295 in
+    subst rerun (accepted_at openings c.args.self.now.book.balances earlier c.args.job.now.value behind) c.in_ok-push_body.ensures.rerun

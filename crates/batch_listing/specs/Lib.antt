@@ -1,0 +1,5 @@
+pub mod Texts
+pub mod Listing
+pub mod Writing
+pub mod Behind
+pub mod Laws

@@ -1,0 +1,141 @@
+ghost use Rattle.std.specs.Prelude.{◌≡◌, ◌≤◌, ◌⊎◌, ◌+◌, ◌-◌, ◌^◌, ◌++◌, ◌↔◌, ◌∷◌, [], List, Some, IfOk, OnOk, OnErr, IfSome, IsSome, false, true, min, map, slice_index};
+ghost use Rattle.deck_reader.specs.JobView.{JobView};
+ghost use Rattle.account_book.specs.BookView.{openings_of};
+ghost use Rattle.account_book.specs.Charges.{charge};
+ghost use Rattle.account_book.specs.Places.{claim_of, is_accepted, lowered, settled};
+ghost use Rattle.algolw_meaning.specs.Meaning.{job_result};
+ghost use Rattle.batch_listing.specs.Texts.{closing};
+ghost use Rattle.batch_listing.specs.Listing.{accepted, body, charged, closing_lines, decision, section};
+ghost use Rattle.batch_listing.specs.Behind.{Fits, IsBehind};
+
+use crate::decision::{Decision, decide};
+use crate::lines;
+use account_book::{Book, charge_of};
+use deck_reader::Job;
+use job_runner::{Brought, Desk, Ended, run_job};
+use std::alloc::{AllocError, Global};
+use std::sync::Arc;
+
+/// Makes the sections of a batch, one after the other, and then the closing lines. Whatever is brought to it, each
+/// section is the one that its job has at its place.
+#[derive(Drop)]
+pub struct Audit {
+    book: Book,
+    reruns: u32,
+}
+
+impl Audit {
+    /// The audit before the first section. Each account of the book must still have its opening.
+    pub fn new(book: Book) -> Result<Audit, AllocError>
+        requires { book.balances ≡ openings_of book.accounts }
+        ensures { IfOk result (λ audit. audit ≡ record { book = book; reruns = 0 }) }
+    {
+        Ok(Audit { book, reruns: 0 })
+    }
+
+    /// The section of the next job, behind those whose sections were made. A result that was brought is used where it
+    /// is for an equal job; otherwise an accepted job is run at the desk. Where memory is wanting, the audit stays as
+    /// it was.
+    pub fn section(
+        &mut self,
+        alloc: Global,
+        job: &Arc<Job>,
+        brought: Option<Brought>,
+        desk: &mut Desk,
+    ) -> Result<Vec<u8>, AllocError>
+        // The section is the one at its place, whatever was brought, and the job has its place behind it.
+        ensures text { (earlier : List JobView) → IsBehind self.old.book earlier → IfOk result (λ v. v.items ≡ section (openings_of self.old.book.accounts) earlier job.now.value) }
+        ensures behind { (earlier : List JobView) → IsBehind self.old.book earlier → OnOk result (IsBehind self.new.book (earlier ++ job.now.value ∷ [])) }
+        ensures accounts { self.new.book.accounts ≡ self.old.book.accounts }
+        ensures kept { OnErr result (self.new ≡ self.old) }
+
+        // The job is run exactly where it is accepted and no result for it was brought.
+        ensures spared { (earlier : List JobView) → IsBehind self.old.book earlier → (accepted (openings_of self.old.book.accounts) earlier job.now.value ≡ false) ⊎ Fits brought job.now.value → (desk.new ≡ desk.old) × (self.new.reruns ≡ self.old.reruns) }
+        ensures rerun { (earlier : List JobView) → IsBehind self.old.book earlier → accepted (openings_of self.old.book.accounts) earlier job.now.value ≡ true → (Fits brought job.now.value → ⊥) → OnOk result (self.new.reruns ≡ min (self.old.reruns + 1) (2 ^ 32 - 1)) }
+    {
+        let mut out = Vec::new(alloc);
+        lines::push_title(&mut out, job)?;
+        self.push_body(alloc, &mut out, job, brought, desk)?;
+        Ok(out)
+    }
+
+    /// For how many sections the audit ran the job itself. The count stops at the end of its type.
+    pub fn reruns(&self) -> u32
+        ensures { result ≡ self.now.reruns }
+    {
+        self.reruns
+    }
+
+    /// The closing lines behind the sections that were made.
+    pub fn closing(&self, alloc: Global, stray: u32) -> Result<Vec<u8>, AllocError>
+        ensures { (jobs : List JobView) → IsBehind self.now.book jobs → IfOk result (λ v. v.items ≡ closing (closing_lines (openings_of self.now.book.accounts) jobs self.now.book.accounts) stray) }
+    {
+        let mut out = Vec::new(alloc);
+        lines::push_closing_title(&mut out)?;
+        lines::push_balances(&mut out, self.book.accounts(), self.book.balances())?;
+        lines::push_stray(&mut out, stray)?;
+        Ok(out)
+    }
+
+    /// Adds the body of a section, and settles what its job is charged.
+    fn push_body(
+        &mut self,
+        alloc: Global,
+        out: &mut Vec<u8>,
+        job: &Arc<Job>,
+        brought: Option<Brought>,
+        desk: &mut Desk,
+    ) -> Result<(), AllocError>
+        ensures text { OnOk result (out.new.items ≡ out.old.items ++ body (decision (slice_index self.old.book.balances) job.now.value) job.now.value) }
+        ensures book { OnOk result (self.new.book.balances ≡ settled self.old.book.balances (charged job.now.value)) }
+        ensures accounts { self.new.book.accounts ≡ self.old.book.accounts }
+        ensures kept { OnErr result (self.new ≡ self.old) }
+        ensures spared { (is_accepted (slice_index self.old.book.balances) (claim_of job.now.value) ≡ false) ⊎ Fits brought job.now.value → (desk.new ≡ desk.old) × (self.new.reruns ≡ self.old.reruns) }
+        ensures rerun { is_accepted (slice_index self.old.book.balances) (claim_of job.now.value) ≡ true → (Fits brought job.now.value → ⊥) → OnOk result (self.new.reruns ≡ min (self.old.reruns + 1) (2 ^ 32 - 1)) }
+    {
+        match decide(&self.book, job) {
+            Decision::Flawed(flaw) => lines::push_flawed(out, flaw),
+            Decision::Refused { reserve, balance } => lines::push_refused(out, reserve, balance),
+            Decision::Accepted(account) => match fitting(brought, job) {
+                Some(ended) => self.push_ended(out, account, &ended),
+                None => {
+                    let ended = run_job(alloc, desk, job)?;
+                    self.push_ended(out, account, &ended)?;
+                    self.reruns = self.reruns.saturating_add(1);
+                    Ok(())
+                }
+            },
+        }
+    }
+
+    /// Adds the body of a job that has ended, and settles its charge.
+    fn push_ended(
+        &mut self,
+        out: &mut Vec<u8>,
+        account: u32,
+        ended: &Ended,
+    ) -> Result<(), AllocError>
+        requires { charge (job_result ended.now.job).counts ≤ slice_index self.old.book.balances account }
+        ensures text { OnOk result (out.new.items ≡ out.old.items ++ (job_result ended.now.job).body) }
+        ensures book { OnOk result (self.new.book.balances ≡ lowered self.old.book.balances (Some account) (charge (job_result ended.now.job).counts)) }
+        ensures accounts { self.new.book.accounts ≡ self.old.book.accounts }
+        ensures reruns { self.new.reruns ≡ self.old.reruns }
+        ensures kept { OnErr result (self.new ≡ self.old) }
+    {
+        out.extend_from_slice(ended.body())?;
+        self.book.settle(account, charge_of(ended.counts()));
+        Ok(())
+    }
+}
+
+/// The result that was brought, where it is for an equal job.
+#[tactic(auto, using(deck_reader::specs::JobEqualityLaws::equal_jobs_are_same))]
+fn fitting(brought: Option<Brought>, job: &Job) -> Option<Ended>
+    ensures equal { IfSome result (λ ended. ended.job ≡ job.now) }
+    ensures fits { IsSome result ↔ Fits brought job.now }
+{
+    match brought {
+        Some(Brought::Ended(ended)) if **ended.job() == *job => Some(ended),
+        _ => None,
+    }
+}

@@ -1,0 +1,15 @@
+// The listing of a batch, made section by section and written piece by piece.
+#![tactic(auto)]
+
+mod audit;
+mod decision;
+mod laws;
+mod lines;
+#[cfg(test)]
+mod tests;
+mod writing;
+
+pub use audit::Audit;
+pub use laws::sections_by_table;
+pub use lines::heading;
+pub use writing::write_all_of;
