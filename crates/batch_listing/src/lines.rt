@@ -1,5 +1,5 @@
 ghost use Rattle.std.specs.Prelude.{◌≡◌, ◌++◌, OnOk, length};
-ghost use Rattle.batch_listing.specs.Texts.{heading, title, flaw_text, flawed_line, refused_line, closing_title, closing_line, balance_lines, stray_line};
+ghost use Rattle.batch_listing.specs.Texts.{heading, title, flawed_line, refused_line, closing_title, closing_line, balance_lines, stray_line};
 
 use deck_reader::{Account, Flaw, Job};
 use job_runner::{push_line, push_number};
@@ -31,20 +31,9 @@ pub fn push_flawed(out: &mut Vec<u8>, flaw: Flaw) -> Result<(), AllocError>
     ensures { OnOk result (out.new.items ≡ out.old.items ++ flawed_line flaw) }
 {
     out.extend_from_slice(b"REFUSED ")?;
-    push_line(out, flaw_text(flaw))
-}
-
-fn flaw_text(flaw: Flaw) -> &'static [u8]
-    ensures { result.now ≡ flaw_text flaw }
-{
-    match flaw {
-        Flaw::CardTooLong => b"1: CARD OVER 80 BYTES",
-        Flaw::ByteNotAllowed => b"2: BYTE NOT ALLOWED",
-        Flaw::JobCard => b"3: JOB CARD ILL FORMED",
-        Flaw::NumberOutOfRange => b"4: NUMBER OUT OF RANGE",
-        Flaw::TooManyCards => b"5: OVER 2000 CARDS",
-        Flaw::AccountUnknown => b"6: ACCOUNT UNKNOWN",
-    }
+    push_number(out, u64::from(flaw.number()))?;
+    out.extend_from_slice(b": ")?;
+    push_line(out, flaw.text())
 }
 
 /// Adds the line of a job that is refused for its balance.

@@ -3,6 +3,7 @@ pub mod CardLaws
 pub mod Forms
 pub mod CardForms
 pub mod CardFlaws
+pub mod Flaws
 pub mod JobView
 pub mod Batch
 pub mod Reading

@@ -1,18 +1,12 @@
 use crate::listed::Listed;
-use short_text::Short;
 use std::marker::Model;
-
-/// A card of a job: at most 80 bytes.
-pub type Card = Short<80>;
-
-/// The name of a job or of an account.
-pub type Name = Short<80>;
+use value_ops::{Card, Name};
 
 /// Why a job is refused before its deck is looked at.
 #[derive(Clone, Copy, Debug, PartialEq, Eq)]
 pub enum Flaw {
     /// Flaw 1: one of its cards is over 80 bytes.
-    CardTooLong,
+    CardTooLong = 1,
     /// Flaw 2: one of its cards holds a byte that isn't allowed.
     ByteNotAllowed,
     /// Flaw 3: its job card isn't of the form.
@@ -23,6 +17,32 @@ pub enum Flaw {
     TooManyCards,
     /// Flaw 6: its account isn't open.
     AccountUnknown,
+}
+
+impl Flaw {
+    ghost use Rattle.std.specs.Prelude.{◌≡◌};
+    ghost use Rattle.deck_reader.specs.Flaws.{flaw_number, flaw_text};
+
+    /// Its number, 1 to 6.
+    pub fn number(self) -> u8
+        ensures { result ≡ flaw_number self }
+    {
+        self as u8
+    }
+
+    /// What the listing says of it.
+    pub fn text(self) -> &'static [u8]
+        ensures { result.now ≡ flaw_text self }
+    {
+        match self {
+            Flaw::CardTooLong => b"CARD OVER 80 BYTES",
+            Flaw::ByteNotAllowed => b"BYTE NOT ALLOWED",
+            Flaw::JobCard => b"JOB CARD ILL FORMED",
+            Flaw::NumberOutOfRange => b"NUMBER OUT OF RANGE",
+            Flaw::TooManyCards => b"OVER 2000 CARDS",
+            Flaw::AccountUnknown => b"ACCOUNT UNKNOWN",
+        }
+    }
 }
 
 /// An account, as its card opened it.

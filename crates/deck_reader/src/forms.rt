@@ -3,9 +3,9 @@ ghost use Rattle.std.specs.List.{list_all, prefix_len};
 ghost use Rattle.std.specs.Option.{option_map};
 ghost use Rattle.deck_reader.specs.Forms.{is_letter, is_digit, is_name, folded, ends_a_word, is_control, is_head, is_data, is_end, is_allowed, behind_blanks, stripped, number_of, name_of, balance_of, account_card, in_32_bits, number_behind, steps_of, lines_of, one_setting, settings_of, fields, job_card, counted, counted_settings, parted};
 
-use crate::batch::Name;
 use crate::bytes::split_once;
 use short_text::{Short, without_blanks};
+use value_ops::Name;
 
 /// The control word of an account card.
 const ACCOUNT: &[u8] = b"%ACCOUNT";

@@ -13,8 +13,9 @@ mod reader;
 mod reading;
 
 pub use accounts::find_account;
-pub use batch::{Account, Batch, Card, Flaw, Job, Name};
+pub use batch::{Account, Batch, Flaw, Job};
 pub use bytes::split_once;
 pub use laws::{account_card_by_parts, equal_jobs_are_same, job_card_by_parts, pieces_joined};
 pub use listed::Listed;
 pub use reader::{FeedError, Reader};
+pub use value_ops::{Card, Name};

@@ -5,10 +5,11 @@ ghost use Rattle.deck_reader.specs.CardFlaws.{is_long, is_foul};
 ghost use Rattle.deck_reader.specs.Batch.{is_in_range, steps_of, lines_of, account_for, job_from, unread};
 
 use crate::accounts;
-use crate::batch::{Account, Card, Flaw, Job, Name};
+use crate::batch::{Account, Flaw, Job};
 use crate::forms::{self, JobCard};
 use crate::listed::Listed;
 use std::alloc::{AllocError, Global};
+use value_ops::{Card, Name};
 
 /// The most bytes of a job's card.
 const CARD_BYTES: usize = 80;
