@@ -1,4 +1,4 @@
-ghost use Rattle.std.specs.Prelude.{◌≡◌, ◌+◌, ◌≤◌, ◌++◌, [], length, replicate};
+ghost use Rattle.std.specs.Prelude.{◌≡◌, ◌+◌, ◌≤◌, ◌<◌, ◌++◌, ◌∷◌, [], length, replicate};
 ghost use Rattle.std.specs.Cmp.{partial_equiv_from_equiv};
 ghost use Rattle.std.specs.Cmp.Lexicographic.{nat_list_eq_equiv};
 ghost use Rattle.std.specs.Str.{bytes_eq};
@@ -71,6 +71,14 @@ impl<const N: usize> Short<N> {
         let room = &mut self.bytes[..];
         room[self.len..end].copy_from_slice(bytes);
         self.len = end;
+    }
+
+    /// Adds a byte at the end, where there must be room for it.
+    pub fn push(&mut self, byte: u8)
+        requires { length self.old < N }
+        ensures { self.new ≡ self.old ++ byte ∷ [] }
+    {
+        self.extend_from_slice(&[byte]);
     }
 
     /// Adds a byte at the end so many times, where there must be room for that.

@@ -1,0 +1,308 @@
+ghost use Rattle.std.specs.Prelude.{◌≡◌, ℕ, ◌<◌, ◌≤◌, length, map, if◌then◌else◌, nat_lt, Some, None, IsTrue, pos};
+ghost use Rattle.std.specs.List.{prefix_len, list_all};
+ghost use Rattle.std.specs.Char.{to_ascii_uppercase, is_ascii_digit, is_ascii_alphanumeric, is_ascii_hexdigit, digit_value};
+ghost use Rattle.algolw_tree.specs.Chars.{name_char, spoils, value_from, hex_from, are_bits};
+ghost use Rattle.std.specs.Option.{option_map};
+ghost use Rattle.algolw_tree.specs.Symbols.{short, long};
+ghost use Rattle.algolw_scanner.specs.Front.{bits_at, literal, quoted_at, front, name_at, number_at, symbol_at};
+ghost use Rattle.algolw_scanner.specs.Seen.{seen};
+
+use crate::words::word;
+use algolw_tree::{Symbol, TokenKind, Word};
+use value_ops::{Name, Text};
+
+/// The largest number.
+const LARGEST: u64 = 2_147_483_647;
+
+/// What stands at the front of a line, and what stands behind it.
+pub enum Lexeme<'a> {
+    /// A token.
+    Token(TokenKind, &'a [u8]),
+    /// The word that opens a comment.
+    Comment(&'a [u8]),
+    /// A blank.
+    Blank(&'a [u8]),
+    /// Nothing that can be read, and the number of the diagnostic.
+    Fault(u8),
+}
+
+/// Whether a name may have this character behind its first.
+fn is_name_byte(c: u8) -> bool
+    ensures { result ≡ name_char c }
+{
+    c.is_ascii_alphanumeric() || c == b'_'
+}
+
+/// How many characters of a name stand at the front.
+#[tactic(auto, using(crate::proofs::Runs::run_short))]
+fn name_length(line: &[u8]) -> usize
+    ensures value { result ≡ prefix_len name_char line.now }
+    ensures short { result ≤ length line.now }
+{
+    line.iter().take_while(|c| is_name_byte(**c)).count()
+}
+
+/// How many digits stand at the front.
+#[tactic(auto, using(crate::proofs::Runs::run_short))]
+fn digits_length(line: &[u8]) -> usize
+    ensures value { result ≡ prefix_len is_ascii_digit line.now }
+    ensures short { result ≤ length line.now }
+{
+    line.iter().take_while(|c| c.is_ascii_digit()).count()
+}
+
+/// A name in capitals.
+fn folded(spelled: &[u8]) -> Name
+    requires { length spelled.now ≤ 80 }
+    ensures { result ≡ map to_ascii_uppercase spelled.now }
+{
+    let mut name = Name::new();
+    for c in spelled {
+        name.push(c.to_ascii_uppercase());
+    }
+    name
+}
+
+/// A name, a word or the beginning of a comment.
+#[tactic(auto, unfolding(crate::specs::Front::name_at))]
+fn name_front(line: &[u8]) -> Lexeme
+    requires { length line.now ≤ 80 }
+    ensures { seen result ≡ name_at line.now }
+{
+    let (spelled, rest) = line.split_at(name_length(line));
+    let name = folded(spelled);
+    match word(name.as_slice()) {
+        None => Lexeme::Token(TokenKind::Named(name), rest),
+        Some(Word::Comment) => Lexeme::Comment(rest),
+        Some(word) => Lexeme::Token(TokenKind::Word(word), rest),
+    }
+}
+
+/// The number of these digits, where it isn't too large.
+fn value(digits: &[u8]) -> Option<i32>
+    requires { IsTrue (list_all is_ascii_digit digits.now) }
+    ensures { result ≡ (if nat_lt 2147483647 (value_from 0 digits.now) then None else Some (pos (value_from 0 digits.now))) }
+{
+    let mut value: u64 = 0;
+    for digit in digits {
+        value = value * 10 + u64::from(*digit - b'0');
+        if value > LARGEST {
+            return None;
+        }
+    }
+    Some(value as i32)
+}
+
+/// Whether what stands here may not follow a number.
+fn spoils_number(rest: &[u8]) -> bool
+    ensures { result ≡ spoils rest.now }
+{
+    match rest {
+        [] => false,
+        [b'.', next, ..] => next.is_ascii_digit(),
+        [c, ..] => c.is_ascii_alphabetic() || *c == b'_' || *c == b'\'',
+    }
+}
+
+/// A number.
+#[tactic(auto, unfolding(crate::specs::Front::number_at), using(crate::proofs::Runs::run_all))]
+fn number_front(line: &[u8]) -> Lexeme
+    ensures { seen result ≡ number_at line.now }
+{
+    let (digits, rest) = line.split_at(digits_length(line));
+    if spoils_number(rest) {
+        return Lexeme::Fault(13);
+    }
+    match value(digits) {
+        None => Lexeme::Fault(12),
+        Some(n) => Lexeme::Token(TokenKind::Number(n), rest),
+    }
+}
+
+/// The symbol of this character.
+fn short_symbol(c: u8) -> Option<Symbol>
+    ensures { result ≡ short c }
+{
+    match c {
+        b'(' => Some(Symbol::Open),
+        b')' => Some(Symbol::Close),
+        b',' => Some(Symbol::Comma),
+        b';' => Some(Symbol::Semicolon),
+        b':' => Some(Symbol::Colon),
+        b'=' => Some(Symbol::Equal),
+        b'<' => Some(Symbol::Less),
+        b'>' => Some(Symbol::Greater),
+        b'+' => Some(Symbol::Plus),
+        b'-' => Some(Symbol::Minus),
+        b'*' => Some(Symbol::Star),
+        b'/' => Some(Symbol::Slash),
+        b'|' => Some(Symbol::Bar),
+        b'.' => Some(Symbol::Stop),
+        b'~' => Some(Symbol::Not),
+        _ => None,
+    }
+}
+
+/// The symbol of these two characters.
+fn long_symbol(c: u8, d: u8) -> Option<Symbol>
+    ensures { result ≡ long c d }
+{
+    match (c, d) {
+        (b':', b'=') => Some(Symbol::Becomes),
+        (b':', b':') => Some(Symbol::Bounds),
+        (b'~', b'=') => Some(Symbol::NotEqual),
+        (b'<', b'=') => Some(Symbol::LessEqual),
+        (b'>', b'=') => Some(Symbol::GreaterEqual),
+        (b'*', b'*') => Some(Symbol::Power),
+        _ => None,
+    }
+}
+
+/// A symbol, the longest that fits.
+#[tactic(auto, unfolding(crate::specs::Front::symbol_at))]
+fn symbol_front(line: &[u8]) -> Lexeme
+    ensures { seen result ≡ symbol_at line.now }
+{
+    if let [c, d, rest @ ..] = line {
+        if let Some(symbol) = long_symbol(*c, *d) {
+            return Lexeme::Token(TokenKind::Symbol(symbol), rest);
+        }
+    }
+    match line {
+        [] => Lexeme::Fault(10),
+        [c, rest @ ..] => match short_symbol(*c) {
+            Some(symbol) => Lexeme::Token(TokenKind::Symbol(symbol), rest),
+            None => Lexeme::Fault(10),
+        },
+    }
+}
+
+/// What a literal says, and what stands behind it: the longest that is closed, from behind its first quote on.
+fn literal(line: &[u8]) -> Option<(Text, &[u8])>
+    requires { length line.now ≤ 80 }
+    ensures { option_map (λ x. (x.0, x.1.now)) result ≡ literal line.now }
+{
+    let mut said = Text::new();
+    let mut closed = None;
+    let mut rest = line;
+    while let [c, later @ ..] = rest {
+        if *c == b'"' {
+            closed = Some((said, later));
+            match later {
+                [b'"', more @ ..] => {
+                    said.push(b'"');
+                    rest = more;
+                }
+                _ => return closed,
+            }
+        } else {
+            said.push(*c);
+            rest = later;
+        }
+    }
+    closed
+}
+
+/// A literal.
+#[tactic(auto, unfolding(crate::specs::Front::quoted_at))]
+fn quoted_front(line: &[u8]) -> Lexeme
+    requires { length line.now ≤ 80 }
+    ensures { seen result ≡ quoted_at line.now }
+{
+    let [_, inner @ ..] = line else {
+        return Lexeme::Fault(11);
+    };
+    match literal(inner) {
+        None => Lexeme::Fault(11),
+        Some((said, rest)) => match said.as_slice() {
+            [] => match rest {
+                [b'"', ..] => Lexeme::Fault(11),
+                _ => Lexeme::Fault(15),
+            },
+            _ => Lexeme::Token(TokenKind::Quoted(said), rest),
+        },
+    }
+}
+
+/// How many letters and digits stand at the front.
+#[tactic(auto, using(crate::proofs::Runs::run_short))]
+fn alphanumeric_length(line: &[u8]) -> usize
+    ensures value { result ≡ prefix_len is_ascii_alphanumeric line.now }
+    ensures short { result ≤ length line.now }
+{
+    line.iter()
+        .take_while(|c| c.is_ascii_alphanumeric())
+        .count()
+}
+
+/// The value of a hexadecimal digit.
+fn hex_digit(c: u8) -> u8
+    requires { IsTrue (is_ascii_hexdigit c) }
+    ensures { result ≡ digit_value c }
+{
+    match c {
+        b'0'..=b'9' => c - b'0',
+        b'A'..=b'F' => c - b'A' + 10,
+        _ => c - b'a' + 10,
+    }
+}
+
+/// The number that hexadecimal digits stand for.
+fn hex_value(digits: &[u8]) -> u32
+    requires few { length digits.now ≤ 8 }
+    requires hex { IsTrue (list_all is_ascii_hexdigit digits.now) }
+    ensures { result ≡ hex_from 0 digits.now }
+{
+    let mut value: u64 = 0;
+    for c in digits {
+        value = value * 16 + u64::from(hex_digit(*c));
+    }
+    value as u32
+}
+
+/// Whether all are hexadecimal digits.
+fn are_hex(digits: &[u8]) -> bool
+    ensures { result ≡ list_all is_ascii_hexdigit digits.now }
+{
+    digits.iter().all(|c| c.is_ascii_hexdigit())
+}
+
+/// Bits.
+#[tactic(auto, unfolding(crate::specs::Front::bits_at))]
+fn bits_front(line: &[u8]) -> Lexeme
+    ensures { seen result ≡ bits_at line.now }
+{
+    let [_, inner @ ..] = line else {
+        return Lexeme::Fault(14);
+    };
+    let (digits, rest) = inner.split_at(alphanumeric_length(inner));
+    if 0 < digits.len() && digits.len() < 9 && are_hex(digits) {
+        Lexeme::Token(TokenKind::BitsLit(hex_value(digits)), rest)
+    } else {
+        Lexeme::Fault(14)
+    }
+}
+
+/// What stands at the front of a line.
+pub fn front(line: &[u8]) -> Lexeme
+    requires { length line.now ≤ 80 }
+    ensures { seen result ≡ front line.now }
+{
+    match line {
+        [] => Lexeme::Fault(10),
+        [b' ', rest @ ..] => Lexeme::Blank(rest),
+        [c, ..] => {
+            if c.is_ascii_alphabetic() {
+                name_front(line)
+            } else if c.is_ascii_digit() {
+                number_front(line)
+            } else if *c == b'"' {
+                quoted_front(line)
+            } else if *c == b'#' {
+                bits_front(line)
+            } else {
+                symbol_front(line)
+            }
+        }
+    }
+}

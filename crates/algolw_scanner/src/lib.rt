@@ -1,0 +1,13 @@
+//! The tokens of a deck.
+#![tactic(auto)]
+
+mod cursor;
+mod laws;
+mod lexeme;
+mod scanning;
+#[cfg(test)]
+mod tests;
+mod words;
+
+pub use laws::{faults_mean_it, faults_of_decks, one_reading, tokens_of_decks};
+pub use scanning::{Scanned, scan};
