@@ -15,9 +15,6 @@ pub record Kept (start : Cursor) (tokens : List Token) (after_end : Bool) (curso
   pub stops : (d : Diagnostic) → Stops cursor.place (text_at cursor) d → Stops start.place (text_at start) d
   pub sound : Sound cursor
 
-pub kept_start : (c : Cursor) → Sound c → Kept c [] false c
-kept_start c s = record { gives = λ all g. (all, g, refl); stops = λ d g. g; sound = s }
-
 pub kept_skip : (s c n : Cursor) (ts : List Token) (e : Bool) → Kept s ts e c → (u : List ℕ) × Reads (text_at c) u Separator (text_at n) × (n.place ≡ walk c.place u) × Sound n → Kept s ts e n
 kept_skip s c n ts e h (u, r, p, f) = record {
   gives = λ all g. h.gives all (skip u (text_at n) r (subst (λ q. Gives q (text_at n) all) p g));
@@ -69,9 +66,6 @@ kept_fault s c ts e d h (n, f, g) = h.stops d (stops_here c.place (text_at c) d 
 front_nonempty : (u w : List ℕ) (x : Piece) → IsFront u w x → 0 < length u
 front_nonempty [] w x h = absurd h
 front_nonempty (c ∷ u) w x h = omega arith
-
-pub reads_shorter : (rest u w : List ℕ) (x : Piece) → Reads rest u x w → length w < length rest
-reads_shorter rest u w x r = omega (arith, ap length r.cut, length-append u w, front_nonempty u w x r.is)
 
 pub kept_as : (s n : Cursor) (a b : List Token) (d e : Bool) → a ≡ b → d ≡ e → Kept s b e n → Kept s a d n
 kept_as s n a b d e f g h = subst (λ x. Kept s x d n) (sym f) (subst (λ x. Kept s b x n) (sym g) h)

@@ -22,10 +22,6 @@ name_test false false false x e = cc
 pub letter_in_name : (c : ℕ) → class c ≡ Letter → name_char c ≡ true
 letter_in_name c e = name_test (is_in_range 48 57 c) (is_in_range 65 90 c) (is_in_range 97 122 c) (c == 95) (letter_test (c == 32) (is_ascii_alphabetic c) (is_ascii_digit c) (c == 34) (c == 35) e)
 
--- the line, cut behind the name
-rest_of : (p : ℕ → Bool) (cs t : List ℕ) → take (prefix_len p cs) cs ++ (drop (prefix_len p cs) cs ++ 10 ∷ t) ≡ cs ++ 10 ∷ t
-rest_of p cs t = sym (append_assoc (take (prefix_len p cs) cs) (drop (prefix_len p cs) cs) (10 ∷ t)) ∙ ap (λ z. z ++ 10 ∷ t) (take-append-drop (prefix_len p cs) cs)
-
 begins_more : (p : ℕ → Bool) (b z : List ℕ) (x : ℕ) → begins p (b ++ x ∷ []) ≡ false → begins p ((b ++ x ∷ []) ++ z) ≡ false
 begins_more p [] z x e = e
 begins_more p (y ∷ b) z x e = e

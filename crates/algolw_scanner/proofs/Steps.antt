@@ -23,9 +23,6 @@ pub all_on : (p : ℕ → Bool) (u v : List ℕ) → list_all p v ≡ true → l
 all_on p [] v f e = f
 all_on p (x ∷ u) v f e = all_step p u v (p x) (all_on p u v f) e
 
-pub behind_self : (c : Cursor) → Sound c → Behind c [] c
-behind_self c s = record { cut = refl; place = refl; sound = s }
-
 pub behind_on : (a b c : Cursor) (u v : List ℕ) → Behind a u b → Behind b v c → Behind a (u ++ v) c
 behind_on a b c u v h k = record {
   cut = h.cut ∙ ap (λ x. u ++ x) k.cut ∙ sym (append_assoc u v (text_at c));
@@ -85,26 +82,6 @@ behind_line a b u s e l f g =
       };
     }
 
-pub behind_card : (a b : Cursor) → Sound a → a.line.now ≡ [] → a.later.now ≡ b.line.now ∷ b.later.now → length b.line.now ≤ 80 → b.place.card ≡ a.place.card + 1 → b.place.column ≡ 1 → Behind a (10 ∷ []) b
-behind_card a b s e l k f g =
-    let m : list_all clean (b.line.now ∷ b.later.now) ≡ true = subst (λ x. list_all clean x ≡ true) l s.later in
-    let q : length a.later.now ≡ length b.later.now + 1 = ap length l ∙ omega arith in
-    let s3 : a.place.card + length a.later.now ≤ 2000 = s.card in
-    record {
-      cut = ap (λ x. x ++ 10 ∷ text a.later.now) e ∙ ap (λ x. 10 ∷ text x) l ∙ ap (λ x. 10 ∷ x) (append_assoc b.line.now (10 ∷ []) (text b.later.now));
-      place = place_is b.place (a.place.card + 1) 1 f g;
-      sound = record {
-        clean = and_left (clean b.line.now) (list_all clean b.later.now) m;
-        later = and_right (clean b.line.now) (list_all clean b.later.now) m;
-        short = k;
-        column = omega arith;
-        card = omega arith;
-      };
-    }
-
-pub card_end : (a : Cursor) → a.line.now ≡ [] → a.later.now ≡ [] → text_at a ≡ 10 ∷ []
-card_end a e f = ap (λ x. x ++ 10 ∷ text a.later.now) e ∙ ap (λ x. 10 ∷ text x) f
-
 -- the first character of a line, and the others as a pattern has them
 pub first_rest : (xs : List ℕ) → 1 ≤ length xs → xs ≡ (get_or xs 0 0 ∷ []) ++ take (length xs - 1) (drop 1 xs)
 first_rest [] h = absurd (omega arith)
@@ -116,9 +93,6 @@ passed_char a b c x e (u, n, h) k = (u ++ x ∷ [], all_on (λ y. not (y == 59))
 
 pub passed_last : (a b c : Cursor) (x : ℕ) → x ≡ 59 → (u : List ℕ) × (no_semicolon u ≡ true) × Behind a u b → Behind b (x ∷ []) c → (u : List ℕ) × (no_semicolon u ≡ true) × Behind a (u ++ 59 ∷ []) c
 passed_last a b c x e (u, n, h) k = (u, n, behind_on a b c u (59 ∷ []) h (subst (λ y. Behind b (y ∷ []) c) e k))
-
-pub passed_none : (a b : Cursor) → (u : List ℕ) × (no_semicolon u ≡ true) × Behind a u b → text_at b ≡ 10 ∷ [] → no_semicolon (text_at a) ≡ true
-passed_none a b (u, n, h) e = subst (λ y. no_semicolon y ≡ true) (sym (h.cut ∙ ap (λ y. u ++ y) e)) (all_on (λ y. not (y == 59)) u (10 ∷ []) refl n)
 
 pub behind_shorter : (a b : Cursor) (u : List ℕ) → Behind a u b → 0 < length u → length (text_at b) < length (text_at a)
 behind_shorter a b u h e = let k : length (text_at a) ≡ length u + length (text_at b) = ap length h.cut ∙ length-append u (text_at b) in omega arith

@@ -14,6 +14,9 @@ use value_ops::{Name, Text};
 /// The largest number.
 const LARGEST: u64 = 2_147_483_647;
 
+/// The most hexadecimal digits of bits.
+const MOST_BITS_DIGITS: usize = 8;
+
 /// What stands at the front of a line, and what stands behind it.
 pub enum Lexeme<'a> {
     /// A token.
@@ -276,7 +279,7 @@ fn bits_front(line: &[u8]) -> Lexeme
         return Lexeme::Fault(14);
     };
     let (digits, rest) = inner.split_at(alphanumeric_length(inner));
-    if 0 < digits.len() && digits.len() < 9 && are_hex(digits) {
+    if 0 < digits.len() && digits.len() <= MOST_BITS_DIGITS && are_hex(digits) {
         Lexeme::Token(TokenKind::BitsLit(hex_value(digits)), rest)
     } else {
         Lexeme::Fault(14)

@@ -179,6 +179,7 @@ fn decks(rt: HostRuntime) -> Result<(), Fail> {
             ],
             "ABS@1,1 ALGOL@1,5 AND@1,11 ARRAY@1,15 ASSERT@1,21 BEGIN@1,28 BITS@1,34 CASE@1,39 COMPLEX@1,44 DIV@1,52 DO@1,56 ELSE@1,59 END@1,64 FALSE@1,68 FOR@1,74 FORTRAN@2,1 GO@2,9 GOTO@2,12 IF@2,17 INTEGER@2,20 IS@2,28 LOGICAL@2,31 LONG@2,39 NULL@2,44 OF@2,49 OR@2,52 PROCEDURE@2,55 REAL@2,65 RECORD@2,70 REFERENCE@3,1 REM@3,11 RESULT@3,15 SHL@3,22 SHR@3,26 SHORT@3,30 STEP@3,36 STRING@3,41 THEN@3,48 TO@3,53 TRUE@3,56 UNTIL@3,61 VALUE@3,67 WHILE@3,73 $@4,1",
         ),
+        (&["BEGIN WRITE(\"A) END."], "11 AT 1,13"),
     ];
     for (cards, wanted) in cases {
         let Some(scanned) = scanned(rt.alloc(), cards)? else {

@@ -1,8 +1,13 @@
 //! What a deck of ALGOL W is made of.
 #![tactic(auto)]
 
+mod phrases;
 mod tokens;
 mod words;
 
+pub use phrases::{
+    Actual, Bound, ClassDecl, Decl, Formal, Item, Kind, Link, List, ListKind, Mode, Names, Op,
+    Phrase, ProcDecl, RelOp, TypeSpec,
+};
 pub use tokens::{Symbol, Token, TokenKind, Word};
 pub use words::WORDS;

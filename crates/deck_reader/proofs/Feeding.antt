@@ -117,11 +117,6 @@ heads_pass reading input more read many =
     over_heads (nat_lt 4194304 (length (input ++ more))) (nat_lt 2000 (count_by is_head (map cleaned (ended (input ++ more)))))
     (beyond 2000 (count_by is_head (map cleaned (ended (input ++ more)))) (omega arith))
 
--- too many bytes
-pub bytes_pass : (input more : List ℕ) → 4194304 < length input + length more → passes (input ++ more) ≡ true
-bytes_pass input more many =
-    ap (λ (b : Bool). b || nat_lt 2000 (count_by is_head (map cleaned (ended (input ++ more))))) (beyond 4194304 (length (input ++ more)) (omega (arith, length-append input more)))
-
 -- the cards of an input that ends with a line feed, or with nothing
 pub no_last : (reader : Reader) (input : List ℕ) → HasRead reader input → reader.under_way.items ≡ [] → IsReading reader.reading (cards input)
 no_last reader input has empty =
@@ -143,14 +138,3 @@ with_last old new input few has some step =
     ∙ ap (λ (ps : List (List ℕ)). map cleaned (ended input ++ ps)) (sym (unless_empty-some old.under_way.items some))
     ∙ ap (λ (u : List ℕ). map cleaned (ended input ++ unless_empty u)) has.under_way_is in
     subst P is (step (map cleaned (ended input)) (few_cards input few) has.read)
-
--- a whole input within the limits, and one past the limit of heads
-pub input_fits : (reading : Reading) (input : List ℕ) → length input ≤ 4194304 → IsReading reading (cards input) → reading.heads ≤ 2000 → too_large input ≡ false
-input_fits reading input few read heads =
-    let is : reading.heads ≡ count_by is_head (cards input) = read.heads_are in
-    over_by (nat_lt 4194304 (length input)) (nat_lt 2000 (count_by is_head (cards input))) (within 4194304 (length input) few) (within 2000 (count_by is_head (cards input)) (omega arith))
-
-pub input_passes : (reading : Reading) (input : List ℕ) → IsReading reading (cards input) → 2000 < reading.heads → too_large input ≡ true
-input_passes reading input read heads =
-    let is : reading.heads ≡ count_by is_head (cards input) = read.heads_are in
-    over_heads (nat_lt 4194304 (length input)) (nat_lt 2000 (count_by is_head (cards input))) (beyond 2000 (count_by is_head (cards input)) (omega arith))

@@ -68,10 +68,11 @@ pub fn run_job(alloc: Global, desk: &mut Desk, job: &Arc<Job>) -> Result<Ended, 
 
 /// The body of a job whose card wrote this sum.
 fn write_ran(alloc: Global, card: &[u8], sum: u64, counts: Counts) -> Result<Vec<u8>, AllocError>
+    requires { length card.now ≤ 80 }
     ensures { IfOk result (λ v. v.items ≡ ran_body card.now sum counts) }
 {
     let mut out = Vec::new(alloc);
-    text::push_source_line(alloc, &mut out, 1, b"1", card)?;
+    text::push_source_line(&mut out, 1, b"1", card)?;
     text::push_line(&mut out, b"OUTPUT")?;
     text::push_integer_line(&mut out, sum)?;
     text::push_line(&mut out, b"ENDED NORMALLY")?;
@@ -85,7 +86,7 @@ fn write_diagnosed(alloc: Global, deck: &[Card], counts: Counts) -> Result<Vec<u
     ensures { IfOk result (λ v. v.items ≡ diagnosed_body deck.now counts) }
 {
     let mut out = Vec::new(alloc);
-    push_source(alloc, &mut out, deck)?;
+    push_source(&mut out, deck)?;
     text::push_line(
         &mut out,
         b"DIAGNOSTIC 90 AT 1,1: DECK NOT OF THE PRESENT FORM",
@@ -95,12 +96,12 @@ fn write_diagnosed(alloc: Global, deck: &[Card], counts: Counts) -> Result<Vec<u
 }
 
 /// Adds the cards from the first on, with no counts.
-fn push_source(alloc: Global, out: &mut Vec<u8>, deck: &[Card]) -> Result<(), AllocError>
+fn push_source(out: &mut Vec<u8>, deck: &[Card]) -> Result<(), AllocError>
     requires { length deck.now ≤ 2000 }
     ensures { OnOk result (out.new.items ≡ out.old.items ++ source_lines 1 deck.now) }
 {
     for (i, card) in deck.iter().enumerate() {
-        text::push_source_line(alloc, out, i as u32 + 1, b"", card.as_slice())?;
+        text::push_source_line(out, i as u32 + 1, b"", card.as_slice())?;
     }
     Ok(())
 }

@@ -1,10 +1,10 @@
-ghost use Rattle.std.specs.Prelude.{◌≡◌, ◌++◌, OnOk, decimal};
+ghost use Rattle.std.specs.Prelude.{◌≡◌, ◌≤◌, ◌++◌, ◌∷◌, [], OnOk, decimal, length};
 ghost use Rattle.short_text.specs.Blanks.{right};
 ghost use Rattle.algolw_meaning.specs.Texts.{line, source_line, sum_line};
 
 use account_book::{Counts, charge_of};
 use itoa::Buffer;
-use short_text::without_blanks;
+use line_text::Line;
 use std::alloc::{AllocError, Global};
 
 /// The columns of a card's number, of a count, and of an INTEGER that is printed.
@@ -63,21 +63,33 @@ pub fn push_integer_line(out: &mut Vec<u8>, number: u64) -> Result<(), AllocErro
 
 /// Adds a card behind its number and a count.
 pub fn push_source_line(
-    alloc: Global,
     out: &mut Vec<u8>,
     number: u32,
     count: &[u8],
     card: &[u8],
 ) -> Result<(), AllocError>
+    requires number { number ≤ 9999 }
+    requires count { length count.now ≤ 8 }
+    requires card { length card.now ≤ 80 }
     ensures { OnOk result (out.new.items ≡ out.old.items ++ source_line number count.now card.now) }
 {
-    let mut text = Vec::new(alloc);
-    push_number_right(&mut text, NUMBER_WIDTH, u64::from(number))?;
-    text.push(b' ')?;
-    push_right(&mut text, COUNT_WIDTH, count)?;
-    text.extend_from_slice(b"  ")?;
-    text.extend_from_slice(card)?;
-    push_line(out, without_blanks(text.as_slice()))
+    push_line(out, source_text(number, count, card).trimmed())
+}
+
+/// A card behind its number and a count.
+fn source_text(number: u32, count: &[u8], card: &[u8]) -> Line
+    requires number { number ≤ 9999 }
+    requires count { length count.now ≤ 8 }
+    requires card { length card.now ≤ 80 }
+    ensures { result ≡ right 4 (decimal number) ++ 32 ∷ [] ++ right 8 count.now ++ 32 ∷ 32 ∷ [] ++ card.now }
+{
+    let mut line = Line::new();
+    line.number(NUMBER_WIDTH, i64::from(number));
+    line.blanks(1);
+    line.place(COUNT_WIDTH, count);
+    line.blanks(2);
+    line.place(card.len(), card);
+    line
 }
 
 /// Adds the line with what a job used and its charge.

@@ -57,6 +57,7 @@ impl Line {
         ensures wide { (result ≡ Fit.TooWide) ↔ (132 < length self.old + width) }
         ensures placed { result ≡ Fit.Placed → self.new ≡ self.old ++ right width bytes.now }
         ensures kept { result ≡ Fit.TooWide → self.new ≡ self.old }
+        ensures room { length self.old + width ≤ 132 → self.new ≡ self.old ++ right width bytes.now }
     {
         if self.text.len() + width > COLUMNS {
             return Fit::TooWide;
@@ -73,6 +74,7 @@ impl Line {
         ensures wide { (result ≡ Fit.TooWide) ↔ (132 < length self.old + width) }
         ensures placed { result ≡ Fit.Placed → self.new ≡ self.old ++ right width (signed_decimal number) }
         ensures kept { result ≡ Fit.TooWide → self.new ≡ self.old }
+        ensures room { length self.old + width ≤ 132 → self.new ≡ self.old ++ right width (signed_decimal number) }
     {
         let mut buffer = Buffer::new();
         self.place(width, buffer.format(number).as_bytes())

@@ -1,0 +1,260 @@
+use value_ops::{Name, Place, Text};
+
+/// Names, each with its place.
+pub type Names = Vec<(Name, Place)>;
+
+/// A part of a program: an expression, a statement or a block.
+#[cycle(phrases)]
+#[derive(Drop)]
+pub struct Phrase {
+    /// The place that its diagnostics name: of its word, its operator or its name. A chain has that of its first token.
+    pub place: Place,
+    /// The place of its first token. That of an empty phrase is the token behind it.
+    pub first: Place,
+    /// What it is.
+    pub kind: Kind,
+}
+
+/// What a phrase is.
+#[cycle(phrases)]
+#[derive(Drop)]
+pub enum Kind {
+    /// Nothing, as between two semicolons.
+    Empty,
+    /// `NULL`.
+    Null,
+    /// A number that is written out.
+    Number(i32),
+    /// `TRUE` or `FALSE`.
+    Truth(bool),
+    /// Bits that are written out.
+    BitsLit(u32),
+    /// A string that is written out.
+    Quoted(Text),
+    /// A name, and the lists in parentheses behind it.
+    Named(Name, Vec<List>),
+    /// `~` and its operand.
+    Negated(Box<Phrase>),
+    /// `ABS` and its operand.
+    Abs(Box<Phrase>),
+    /// A term behind a sign, which is a minus or not.
+    Signed(bool, Box<Phrase>),
+    /// Operands with operators of one level between them, from left to right.
+    Chain(Box<Phrase>, Vec<Link>),
+    /// A comparison.
+    Relation(RelOp, Box<Phrase>, Box<Phrase>),
+    /// Whether a reference is to a record of the class that is named at a place.
+    IsClass(Box<Phrase>, Name, Place),
+    /// An assignment of the second to the first.
+    Assign(Box<Phrase>, Box<Phrase>),
+    /// `IF`, its condition, what is done where it holds, and otherwise.
+    IfThen(Box<Phrase>, Box<Phrase>, Option<Box<Phrase>>),
+    /// `CASE` with the values to choose from.
+    CaseValue(Box<Phrase>, Vec<Phrase>),
+    /// `CASE` with the statements to choose from.
+    CaseDo(Box<Phrase>, Vec<Phrase>),
+    /// `FOR` a control name: the start, the step, the limit, and what is done.
+    ForStep(Name, Box<Phrase>, Option<Box<Phrase>>, Box<Phrase>, Box<Phrase>),
+    /// `FOR` a control name: the values, and what is done.
+    ForList(Name, Vec<Phrase>, Box<Phrase>),
+    /// `WHILE`, its condition, and what is done.
+    WhileDo(Box<Phrase>, Box<Phrase>),
+    /// `GOTO` a label.
+    Goto(Name),
+    /// `ASSERT` a condition.
+    Assert(Box<Phrase>),
+    /// A block: its declarations and its items.
+    Block(Vec<Decl>, Vec<Item>),
+}
+
+/// An operator of a chain and the operand behind it.
+#[cycle(phrases)]
+#[derive(Drop)]
+pub struct Link {
+    /// The operator.
+    pub op: Op,
+    /// The operator's place.
+    pub place: Place,
+    /// The operand.
+    pub right: Phrase,
+}
+
+/// A list in parentheses behind a name.
+#[cycle(phrases)]
+#[derive(Drop)]
+pub struct List {
+    /// The place of its opening parenthesis.
+    pub place: Place,
+    /// What it is.
+    pub kind: ListKind,
+}
+
+/// What a list behind a name is.
+#[cycle(phrases)]
+#[derive(Drop)]
+pub enum ListKind {
+    /// Subscripts, fields or actuals.
+    Actuals(Vec<Actual>),
+    /// A part of a string: the place where it begins, and its length.
+    Part(Box<Phrase>, i32),
+}
+
+/// A subscript, a field or an actual.
+#[cycle(phrases)]
+#[derive(Drop)]
+pub enum Actual {
+    /// `*`, which stands for a whole dimension, at a place.
+    Star(Place),
+    /// A phrase.
+    Phrase(Phrase),
+}
+
+/// A phrase of a block, behind its labels.
+#[cycle(phrases)]
+#[derive(Drop)]
+pub struct Item {
+    /// Its labels.
+    pub labels: Names,
+    /// The phrase.
+    pub phrase: Phrase,
+}
+
+/// A declaration.
+#[cycle(phrases)]
+#[derive(Drop)]
+pub enum Decl {
+    /// Simple variables of a type.
+    Simple(TypeSpec, Names),
+    /// Arrays of a type, with their bounds.
+    Array(TypeSpec, Names, Vec<Bound>),
+    /// A procedure.
+    Proc(ProcDecl),
+    /// A record class.
+    Class(ClassDecl),
+}
+
+/// The bounds of a dimension.
+#[cycle(phrases)]
+#[derive(Drop)]
+pub struct Bound {
+    /// The place of `::`.
+    pub place: Place,
+    /// The lower bound.
+    pub lower: Phrase,
+    /// The upper bound.
+    pub upper: Phrase,
+}
+
+/// A procedure.
+#[cycle(phrases)]
+#[derive(Drop)]
+pub struct ProcDecl {
+    /// The place of `PROCEDURE`.
+    pub place: Place,
+    /// The type of its value, where it has one.
+    pub result: Option<TypeSpec>,
+    /// Its name, and where that stands.
+    pub name: (Name, Place),
+    /// Its formals.
+    pub formals: Vec<Formal>,
+    /// Its body, which may be empty.
+    pub body: Box<Phrase>,
+}
+
+/// A record class.
+#[derive(Drop)]
+pub struct ClassDecl {
+    /// Its name, and where that stands.
+    pub name: (Name, Place),
+    /// Its fields, by groups of one type.
+    pub groups: Vec<(TypeSpec, Names)>,
+}
+
+/// Formals of a procedure that are declared together.
+#[derive(Drop)]
+pub struct Formal {
+    /// Their type, which procedures without a value have none of.
+    pub spec: Option<TypeSpec>,
+    /// How they are passed.
+    pub mode: Mode,
+    /// Their names.
+    pub names: Names,
+    /// How many dimensions they have: none but of arrays.
+    pub dimensions: u32,
+}
+
+/// How a formal is passed.
+#[derive(Clone, Copy, Debug, PartialEq, Eq)]
+pub enum Mode {
+    /// By name.
+    ByName,
+    /// `VALUE`.
+    Value,
+    /// `RESULT`.
+    Result,
+    /// `VALUE RESULT`.
+    ValueResult,
+    /// `ARRAY`.
+    Array,
+    /// `PROCEDURE`.
+    Procedure,
+}
+
+/// A type as it is written, with the numbers and names in it.
+#[derive(Drop)]
+pub enum TypeSpec {
+    /// `INTEGER`.
+    Integer,
+    /// `LOGICAL`.
+    Logical,
+    /// `BITS`, and the number behind it.
+    Bits(Option<(i32, Place)>),
+    /// `STRING`, and its length.
+    Str(Option<(i32, Place)>),
+    /// `REFERENCE` to records of these classes.
+    Reference(Names),
+}
+
+/// An operator of a chain.
+#[derive(Clone, Copy, Debug, PartialEq, Eq)]
+pub enum Op {
+    /// `OR`.
+    Or,
+    /// `AND`.
+    And,
+    /// `+`.
+    Plus,
+    /// `-`.
+    Minus,
+    /// `*`.
+    Times,
+    /// `/`.
+    Slash,
+    /// `DIV`.
+    Div,
+    /// `REM`.
+    Rem,
+    /// `SHL`.
+    Shl,
+    /// `SHR`.
+    Shr,
+    /// `**`.
+    Power,
+}
+
+/// An operator of a comparison.
+#[derive(Clone, Copy, Debug, PartialEq, Eq)]
+pub enum RelOp {
+    /// `=`.
+    Equal,
+    /// `~=`.
+    NotEqual,
+    /// `<`.
+    Less,
+    /// `<=`.
+    LessEqual,
+    /// `>`.
+    Greater,
+    /// `>=`.
+    GreaterEqual,
+}
