@@ -1,0 +1,106 @@
+-- The tree that a phrase in memory is.
+use Rattle.std.specs.Prelude.{map}
+use Rattle.std.specs.Option.{option_map}
+use Rattle.algolw_tree.specs.declared.phrases.Phrase.{Phrase}
+use Rattle.algolw_tree.specs.declared.phrases.Kind.{Kind, Empty, Null, Number, Truth, BitsLit, Quoted, Goto, Named', Negated', Abs', Signed', Chain', Relation', IsClass', Assign', IfThen', CaseValue', CaseDo', ForStep', ForList', WhileDo', Assert', Block', Row_of-Link, end_of-Link, more_of-Link, Row_of-List, end_of-List, more_of-List, Row_of-Phrase, end_of-Phrase, more_of-Phrase, Held-Kind-IfThen-2, Some', None', Row_of-Item, end_of-Item, more_of-Item, Row_of-Decl, end_of-Decl, more_of-Decl}
+use Rattle.algolw_tree.specs.declared.phrases.Actual.{Actual, Star, Phrase'}
+use Rattle.algolw_tree.specs.declared.phrases.ProcDecl.{ProcDecl, ProcDecl'}
+use Rattle.algolw_tree.specs.declared.phrases.Decl.{Decl, Simple, Array', Proc, Class, Row_of-Bound, end_of-Bound, more_of-Bound}
+use Rattle.algolw_tree.specs.declared.phrases.ListKind.{ListKind, Actuals', Part', Row_of-Actual, end_of-Actual, more_of-Actual}
+use Rattle.value_ops.specs.declared.places.Place.{Place}
+use Rattle.algolw_tree.specs.declared.phrases.TypeSpec.{TypeSpec}
+use Rattle.algolw_tree.specs.declared.phrases.TypeSpec.TheVariants as spec
+use Rattle.algolw_tree.specs.declared.phrases.Formal.{Formal}
+use Rattle.algolw_tree.specs.declared.phrases.ClassDecl.{ClassDecl}
+use Rattle.algolw_tree.specs.Tree as Tree
+
+abbrev pub spec_tree : TypeSpec → Tree.TypeSpec
+spec_tree spec.Integer = Tree.Integer
+spec_tree spec.Logical = Tree.Logical
+spec_tree (spec.Bits n) = Tree.Bits n
+spec_tree (spec.Str n) = Tree.Str n
+spec_tree (spec.Reference names) = Tree.Reference names.items
+
+abbrev pub formal_tree : Formal → Tree.Formal
+formal_tree f = record { spec = option_map spec_tree f.spec; mode = f.mode; names = f.names.items; dimensions = f.dimensions }
+
+abbrev pub class_tree : ClassDecl → Tree.ClassDecl
+class_tree c = record { name = c.name; groups = map (λ g. (spec_tree g.0, g.1.items)) c.groups.items }
+
+abbrev mutual
+  pub kind_tree : Kind → Tree.Kind
+  kind_tree Empty = Tree.Empty
+  kind_tree Null = Tree.Null
+  kind_tree (Number n) = Tree.Number n
+  kind_tree (Truth b) = Tree.Truth b
+  kind_tree (BitsLit b) = Tree.BitsLit b
+  kind_tree (Quoted t) = Tree.Quoted t
+  kind_tree (Goto n) = Tree.Goto n
+  kind_tree (Named' n shape lists) = Tree.Named n (lists_tree lists)
+  kind_tree (Negated' q place first kind) = Tree.Negated (Tree.At place first (kind_tree kind))
+  kind_tree (Abs' q place first kind) = Tree.Abs (Tree.At place first (kind_tree kind))
+  kind_tree (Signed' minus q place first kind) = Tree.Signed minus (Tree.At place first (kind_tree kind))
+  kind_tree (Chain' q place first kind shape links) = Tree.Chain (Tree.At place first (kind_tree kind)) (links_tree links)
+  kind_tree (Relation' op q place first kind q2 place2 first2 kind2) = Tree.Relation op (Tree.At place first (kind_tree kind)) (Tree.At place2 first2 (kind_tree kind2))
+  kind_tree (IsClass' q place first kind n at) = Tree.IsClass (Tree.At place first (kind_tree kind)) n at
+  kind_tree (Assign' q place first kind q2 place2 first2 kind2) = Tree.Assign (Tree.At place first (kind_tree kind)) (Tree.At place2 first2 (kind_tree kind2))
+  kind_tree (IfThen' q place first kind q2 place2 first2 kind2 otherwise) = Tree.IfThen (Tree.At place first (kind_tree kind)) (Tree.At place2 first2 (kind_tree kind2)) (perhaps_tree otherwise)
+  kind_tree (CaseValue' q place first kind shape values) = Tree.CaseValue (Tree.At place first (kind_tree kind)) (phrases_tree values)
+  kind_tree (CaseDo' q place first kind shape parts) = Tree.CaseDo (Tree.At place first (kind_tree kind)) (phrases_tree parts)
+  kind_tree (ForStep' n q place first kind step q2 place2 first2 kind2 q3 place3 first3 kind3) = Tree.ForStep n (Tree.At place first (kind_tree kind)) (perhaps_tree step) (Tree.At place2 first2 (kind_tree kind2)) (Tree.At place3 first3 (kind_tree kind3))
+  kind_tree (ForList' n shape values q place first kind) = Tree.ForList n (phrases_tree values) (Tree.At place first (kind_tree kind))
+  kind_tree (WhileDo' q place first kind q2 place2 first2 kind2) = Tree.WhileDo (Tree.At place first (kind_tree kind)) (Tree.At place2 first2 (kind_tree kind2))
+  kind_tree (Assert' q place first kind) = Tree.Assert (Tree.At place first (kind_tree kind))
+  kind_tree (Block' shape decls shape2 items) = Tree.Block (decls_tree decls) (items_tree items)
+
+  pub phrases_tree : {m : _} → Row_of-Phrase m → Tree.Phrases
+  phrases_tree end_of-Phrase = Tree.no_phrases
+  phrases_tree (more_of-Phrase place first kind rest) = Tree.phrase_and (Tree.At place first (kind_tree kind)) (phrases_tree rest)
+
+  pub links_tree : {m : _} → Row_of-Link m → Tree.Links
+  links_tree end_of-Link = Tree.no_links
+  links_tree (more_of-Link op place right_place first kind rest) = Tree.link_and op place (Tree.At right_place first (kind_tree kind)) (links_tree rest)
+
+  pub lists_tree : {m : _} → Row_of-List m → Tree.Lists
+  lists_tree end_of-List = Tree.no_lists
+  lists_tree (more_of-List place kind rest) = list_tree place kind (lists_tree rest)
+
+  pub list_tree : Place → ListKind → Tree.Lists → Tree.Lists
+  list_tree at (Actuals' shape actuals) rest = Tree.actuals_and at (actuals_tree actuals) rest
+  list_tree at (Part' q place first kind n) rest = Tree.part_and at (Tree.At place first (kind_tree kind)) n rest
+
+  pub actuals_tree : {m : _} → Row_of-Actual m → Tree.Actuals
+  actuals_tree end_of-Actual = Tree.no_actuals
+  actuals_tree (more_of-Actual actual rest) = actual_tree actual (actuals_tree rest)
+
+  pub actual_tree : Actual → Tree.Actuals → Tree.Actuals
+  actual_tree (Star place) rest = Tree.star_and place rest
+  actual_tree (Phrase' place first kind) rest = Tree.actual_and (Tree.At place first (kind_tree kind)) rest
+
+  pub perhaps_tree : Held-Kind-IfThen-2 → Tree.Perhaps
+  perhaps_tree None' = Tree.Missing
+  perhaps_tree (Some' q place first kind) = Tree.There (Tree.At place first (kind_tree kind))
+
+  pub items_tree : {m : _} → Row_of-Item m → Tree.Items
+  items_tree end_of-Item = Tree.no_items
+  items_tree (more_of-Item labels place first kind rest) = Tree.item_and labels.items (Tree.At place first (kind_tree kind)) (items_tree rest)
+
+  pub decls_tree : {m : _} → Row_of-Decl m → Tree.Decls
+  decls_tree end_of-Decl = Tree.no_decls
+  decls_tree (more_of-Decl decl rest) = decl_tree decl (decls_tree rest)
+
+  pub decl_tree : Decl → Tree.Decls → Tree.Decls
+  decl_tree (Simple type names) rest = Tree.simple_and (spec_tree type) names.items rest
+  decl_tree (Array' type names shape bounds) rest = Tree.array_and (spec_tree type) names.items (bounds_tree bounds) rest
+  decl_tree (Proc procedure) rest = procedure_tree procedure rest
+  decl_tree (Class c) rest = Tree.class_and (class_tree c) rest
+
+  pub procedure_tree : ProcDecl → Tree.Decls → Tree.Decls
+  procedure_tree (ProcDecl' place result name formals q body_place first kind) rest = Tree.procedure_and place (option_map spec_tree result) name (map formal_tree formals.items) (Tree.At body_place first (kind_tree kind)) rest
+
+  pub bounds_tree : {m : _} → Row_of-Bound m → Tree.Bounds
+  bounds_tree end_of-Bound = Tree.no_bounds
+  bounds_tree (more_of-Bound place lower_place lower_first lower upper_place upper_first upper rest) = Tree.bound_and place (Tree.At lower_place lower_first (kind_tree lower)) (Tree.At upper_place upper_first (kind_tree upper)) (bounds_tree rest)
+
+abbrev pub tree : Phrase → Tree.Phrase
+tree p = Tree.At p.place p.first (kind_tree p.kind)
