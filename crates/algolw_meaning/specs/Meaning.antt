@@ -3,7 +3,9 @@ use Rattle.std.specs.Prelude.{ℕ, nat_le, if◌then◌else◌, List, [], ◌∷
 use Rattle.deck_reader.specs.JobView.{JobView}
 use Rattle.account_book.specs.declared.charges.Counts.{Counts}
 use Rattle.short_text.specs.Blanks.{right}
-use Rattle.algolw_meaning.specs.Texts.{line, source_line, source_lines, sum_line}
+use Rattle.algolw_meaning.specs.Texts.{line, source_line, source_lines, sum_line, diagnostic_line}
+use Rattle.value_ops.specs.declared.places.Diagnostic.{Diagnostic}
+use Rattle.algolw_meaning.specs.DeckFaults.{deck_fault}
 use Rattle.algolw_meaning.specs.Sums.{sum_of_deck}
 use Rattle.algolw_meaning.specs.declared.ending.Ending.{Ending}
 use Rattle.algolw_meaning.specs.declared.ending.Ending.TheVariants.{Normal, Diagnosed}
@@ -25,18 +27,30 @@ first_card (card ∷ cards) = card
 abbrev pub ran_body : List ℕ → ℕ → Counts → List ℕ
 ran_body card sum counts = source_line 1 (codes "1") card ++ line (codes "OUTPUT") ++ line (right 14 (decimal sum)) ++ line (codes "ENDED NORMALLY") ++ sum_line counts
 
--- the body of a job whose deck can't be run by now
-abbrev pub diagnosed_body : List (List ℕ) → Counts → List ℕ
-diagnosed_body deck counts = source_lines 1 deck ++ line (codes "DIAGNOSTIC 90 AT 1,1: DECK NOT OF THE PRESENT FORM") ++ sum_line counts
+-- the body of a job whose deck has this diagnostic
+abbrev pub diagnosed_body : List (List ℕ) → Diagnostic → Counts → List ℕ
+diagnosed_body deck d counts = source_lines 1 deck ++ diagnostic_line d ++ sum_line counts
 
-abbrev pub result_by : Option ℕ → JobView → JobResult
-result_by None job = record { body = diagnosed_body job.deck (counts_of job.cards 0 0); counts = counts_of job.cards 0 0; ending = Diagnosed }
-result_by (Some sum) job = record { body = ran_body (first_card job.deck) sum (counts_of job.cards 2 1); counts = counts_of job.cards 2 1; ending = Normal }
+abbrev pub diagnosed : Diagnostic → JobView → JobResult
+diagnosed d job = record { body = diagnosed_body job.deck d (counts_of job.cards 0 0); counts = counts_of job.cards 0 0; ending = Diagnosed }
+
+abbrev pub ran : ℕ → JobView → JobResult
+ran sum job = record { body = ran_body (first_card job.deck) sum (counts_of job.cards 2 1); counts = counts_of job.cards 2 1; ending = Normal }
+
+-- the diagnostic of a deck that can't be run by now
+abbrev pub not_by_now : Diagnostic
+not_by_now = record { number = 90; place = record { card = 1; column = 1 } }
+
+-- the result by the fault of the deck and by the sum that it writes
+abbrev pub result_by : Option Diagnostic → Option ℕ → JobView → JobResult
+result_by (Some d) sum job = diagnosed d job
+result_by None (Some sum) job = ran sum job
+result_by None None job = diagnosed not_by_now job
 
 -- the sum that a job writes, which takes two steps
 abbrev pub sum_of_job : JobView → Option ℕ
 sum_of_job job = if nat_le 2 job.steps then sum_of_deck job.deck else None
 
--- a job that writes a sum takes two steps and prints one line; every other one is diagnosed
+-- a deck with a fault is diagnosed; a job that writes a sum takes two steps and prints one line; every other one is diagnosed too
 abbrev pub job_result : JobView → JobResult
-job_result job = result_by (sum_of_job job) job
+job_result job = result_by (deck_fault job.deck) (sum_of_job job) job

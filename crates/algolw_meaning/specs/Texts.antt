@@ -3,6 +3,9 @@ use Rattle.std.specs.Prelude.{ℕ, ◌+◌, List, [], ◌∷◌, ◌++◌, decim
 use Rattle.short_text.specs.Blanks.{trimmed, right}
 use Rattle.account_book.specs.Charges.{charge}
 use Rattle.account_book.specs.declared.charges.Counts.{Counts}
+use Rattle.value_ops.specs.declared.places.Diagnostic.{Diagnostic}
+use Rattle.value_ops.specs.declared.places.Place.{Place}
+use Rattle.value_ops.specs.Diagnostics.{diagnostic_text}
 
 -- a text and a line feed
 abbrev pub line : List ℕ → List ℕ
@@ -20,3 +23,15 @@ source_lines number (card ∷ cards) = source_line number [] card ++ source_line
 -- what a job used, and its charge
 abbrev pub sum_line : Counts → List ℕ
 sum_line counts = line (codes "CARDS " ++ decimal counts.cards ++ codes " STEPS " ++ decimal counts.steps ++ codes " LINES " ++ decimal counts.lines ++ codes " CHARGE " ++ decimal (charge counts))
+
+-- a card and a column
+unfoldable pub place_text : Place → List ℕ
+place_text p = decimal p.card ++ codes "," ++ decimal p.column
+
+-- the number of a diagnostic, and its place
+unfoldable pub diagnostic_head : Diagnostic → List ℕ
+diagnostic_head d = codes "DIAGNOSTIC " ++ decimal d.number ++ codes " AT " ++ place_text d.place
+
+-- what is wrong with a deck, and where
+abbrev pub diagnostic_line : Diagnostic → List ℕ
+diagnostic_line d = line (diagnostic_head d ++ codes ": " ++ diagnostic_text d.number)

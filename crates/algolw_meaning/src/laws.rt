@@ -1,6 +1,12 @@
+ghost use Rattle.algolw_meaning.specs.DeckFaults.{DeckFaults};
 ghost use Rattle.algolw_meaning.specs.Laws.{ResultWithin};
 
 /// A job is charged at least its cards and at most its reserve.
 pub fn result_within()
     ensures { ResultWithin }
+{}
+
+/// A deck has the diagnostic of its tokens, or else of its form, or it spells a program.
+pub fn faults_of_decks()
+    ensures { DeckFaults }
 {}

@@ -63,7 +63,7 @@ stops_here p (c ∷ rest) d e n f g = subst (λ x. Stops p (c ∷ rest) x) (diag
 pub kept_fault : (s c : Cursor) (ts : List Token) (e : Bool) (d : Diagnostic) → Kept s ts e c → ReadsNothing (text_at c) × (d.number ≡ fault (text_at c)) × (d.place ≡ c.place) → Stops s.place (text_at s) d
 kept_fault s c ts e d h (n, f, g) = h.stops d (stops_here c.place (text_at c) d (omega (arith, length-append c.line.now (10 ∷ text c.later.now))) n f g)
 
-front_nonempty : (u w : List ℕ) (x : Piece) → IsFront u w x → 0 < length u
+pub front_nonempty : (u w : List ℕ) (x : Piece) → IsFront u w x → 0 < length u
 front_nonempty [] w x h = absurd h
 front_nonempty (c ∷ u) w x h = omega arith
 

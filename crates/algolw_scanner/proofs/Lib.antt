@@ -17,5 +17,7 @@ pub mod Count
 pub mod Places
 pub mod Order
 pub mod Ends
-pub mod Decks
+pub mod Keeps
 pub mod Meaning
+pub mod Pieces
+pub mod Shown

@@ -45,7 +45,7 @@ of_class c cs t n Quote e = quoted_matches c cs t e (clean_others (c == 10) (cle
 of_class c cs t n Sharp e = bits_matches c cs t e
 of_class c cs t n Other e = symbol_matches c cs t e (clean_first (c == 10) (clean cs) n)
 
-front_matches : (line t : List ℕ) → clean line ≡ true → 0 < length line → Matches line t (front line)
+pub front_matches : (line t : List ℕ) → clean line ≡ true → 0 < length line → Matches line t (front line)
 front_matches [] t n h = absurd (omega arith)
 front_matches (c ∷ cs) t n h = of_class c cs t n (class c) refl
 

@@ -131,7 +131,7 @@ gives_one (token {p = p} {rest = rest} k u w r g) (token {ts = ts} l v z s h) =
 nothing_read : {rest u w : List ℕ} {x : Piece} → ReadsNothing rest → Reads rest u x w → ⊥
 nothing_read {rest} {u} {w} {x} n r = n u w x r.cut r.is
 
-stops_one : {p : Place} {rest : List ℕ} {d e : Diagnostic} → Stops p rest d → Stops p rest e → d ≡ e
+pub stops_one : {p : Place} {rest : List ℕ} {d e : Diagnostic} → Stops p rest d → Stops p rest e → d ≡ e
 stops_one (here n) (here m) = refl
 stops_one (here n) (later v y z s h) = absurd (nothing_read n s)
 stops_one (later u x w r g) (here m) = absurd (nothing_read m r)

@@ -14,6 +14,7 @@ use Rattle.algolw_tree.specs.Tokens.{AreTokens, IsFault, IsRun, Spells, ReadsNot
 use Rattle.algolw_tree.specs.Words.{opens_comment}
 use Rattle.algolw_scanner.specs.declared.scanning.Scanned.{Scanned}
 use Rattle.algolw_scanner.specs.declared.scanning.Scanned.TheVariants.{Tokens, Bad}
+use Rattle.algolw_scanner.specs.Decks.{Reading, AllTokens, FirstFault, scanned}
 
 -- the cards of a deck that may be scanned: few, none too long, and none with a byte that isn't allowed
 pub record IsDeck (cards : List (List ℕ)) : Type 0 where
@@ -30,6 +31,15 @@ IsScanOf cards (Bad diagnostic) = IsFault cards diagnostic
 abbrev pub IsOnlyScanOf : List (List ℕ) → Scanned → Type 0
 IsOnlyScanOf cards (Tokens tokens) = ((others : List Token) → AreTokens cards others → others ≡ tokens.items) × ((d : Diagnostic) → IsFault cards d → ⊥)
 IsOnlyScanOf cards (Bad diagnostic) = ((tokens : List Token) → AreTokens cards tokens → ⊥) × ((d : Diagnostic) → IsFault cards d → d ≡ diagnostic)
+
+-- what a reading says of a deck
+abbrev pub IsReading : List (List ℕ) → Reading → Type 0
+IsReading cards (AllTokens tokens) = AreTokens cards tokens
+IsReading cards (FirstFault diagnostic) = IsFault cards diagnostic
+
+-- what a deck scans to is its tokens, or the place where they stop
+abbrev pub ScannedIsReading : Type 0
+ScannedIsReading = (cards : List (List ℕ)) → IsReading cards (scanned cards)
 
 -- one place is before another
 abbrev pub IsBefore : Place → Place → Type 0

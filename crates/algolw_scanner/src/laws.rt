@@ -2,7 +2,7 @@ ghost use Rattle.std.specs.Prelude.{◌≡◌, ℕ, List};
 ghost use Rattle.value_ops.specs.declared.places.Diagnostic.{Diagnostic};
 ghost use Rattle.algolw_tree.specs.declared.tokens.Token.{Token};
 ghost use Rattle.algolw_tree.specs.Tokens.{AreTokens, IsFault};
-ghost use Rattle.algolw_scanner.specs.Laws.{TokensOfDecks, FaultsOfDecks, FaultsMeanIt};
+ghost use Rattle.algolw_scanner.specs.Laws.{TokensOfDecks, FaultsOfDecks, FaultsMeanIt, ScannedIsReading};
 
 /// A deck has at most one list of tokens, and none where its chain stops.
 pub fn one_reading()
@@ -24,4 +24,9 @@ pub fn faults_of_decks()
 /// The number that is given where nothing is read says what is wrong there.
 pub fn faults_mean_it()
     ensures { FaultsMeanIt }
+{}
+
+/// What the cards of a deck scan to, as a function of them, is the deck's tokens, or the place where they stop.
+pub fn decks_are_scanned()
+    ensures { ScannedIsReading }
 {}

@@ -9,5 +9,5 @@ mod scanning;
 mod tests;
 mod words;
 
-pub use laws::{faults_mean_it, faults_of_decks, one_reading, tokens_of_decks};
+pub use laws::{decks_are_scanned, faults_mean_it, faults_of_decks, one_reading, tokens_of_decks};
 pub use scanning::{Scanned, scan};

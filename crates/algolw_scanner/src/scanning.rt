@@ -6,7 +6,8 @@ ghost use Rattle.algolw_tree.specs.declared.tokens.Token.{Token};
 ghost use Rattle.value_ops.specs.declared.places.Diagnostic.{Diagnostic};
 ghost use Rattle.algolw_scanner.specs.Cursors.{Sound, AreClean, text_at};
 ghost use Rattle.algolw_scanner.specs.Laws.{IsDeck, IsScanOf, IsOnlyScanOf, IsOfDeck};
-ghost use Rattle.algolw_scanner.specs.Scans.{kept_one, Says};
+ghost use Rattle.algolw_scanner.specs.Scans.{kept_one, Says, reading};
+ghost use Rattle.algolw_scanner.specs.Decks.{scanned};
 
 use crate::cursor::{Cursor, Next};
 use algolw_tree::{Token, TokenKind, Word};
@@ -86,6 +87,7 @@ pub fn scan(alloc: Global, deck: &[Card]) -> Result<Scanned, AllocError>
     ensures said { IfOk result (λ s. IsScanOf deck.now s) }
     ensures only { IfOk result (λ s. IsOnlyScanOf deck.now s) }
     ensures placed { IfOk result (λ s. IsOfDeck deck.now s) }
+    ensures read { IfOk result (λ s. reading s ≡ scanned deck.now) }
 {
     deck_tokens(alloc, deck)
 }

@@ -7,6 +7,10 @@ use Rattle.algolw_tree.specs.declared.phrases.Actual.{Actual, Star, Phrase'}
 use Rattle.algolw_tree.specs.declared.phrases.ProcDecl.{ProcDecl, ProcDecl'}
 use Rattle.algolw_tree.specs.declared.phrases.Decl.{Decl, Simple, Array', Proc, Class, Row_of-Bound, end_of-Bound, more_of-Bound}
 use Rattle.algolw_tree.specs.declared.phrases.ListKind.{ListKind, Actuals', Part', Row_of-Actual, end_of-Actual, more_of-Actual}
+use Rattle.algolw_tree.specs.declared.phrases.Link.{Link}
+use Rattle.algolw_tree.specs.declared.phrases.List.{List}
+use Rattle.algolw_tree.specs.declared.phrases.Item.{Item}
+use Rattle.algolw_tree.specs.declared.phrases.Bound.{Bound}
 use Rattle.value_ops.specs.declared.places.Place.{Place}
 use Rattle.algolw_tree.specs.declared.phrases.TypeSpec.{TypeSpec}
 use Rattle.algolw_tree.specs.declared.phrases.TypeSpec.TheVariants as spec
@@ -59,23 +63,23 @@ abbrev mutual
 
   pub links_tree : {m : _} → Row_of-Link m → Tree.Links
   links_tree end_of-Link = Tree.no_links
-  links_tree (more_of-Link op place right_place first kind rest) = Tree.link_and op place (Tree.At right_place first (kind_tree kind)) (links_tree rest)
+  links_tree (more_of-Link op place right_place first kind rest) = Tree.link_and (Tree.Linked op place (Tree.At right_place first (kind_tree kind))) (links_tree rest)
 
   pub lists_tree : {m : _} → Row_of-List m → Tree.Lists
   lists_tree end_of-List = Tree.no_lists
-  lists_tree (more_of-List place kind rest) = list_tree place kind (lists_tree rest)
+  lists_tree (more_of-List place kind rest) = Tree.list_and (listing_tree place kind) (lists_tree rest)
 
-  pub list_tree : Place → ListKind → Tree.Lists → Tree.Lists
-  list_tree at (Actuals' shape actuals) rest = Tree.actuals_and at (actuals_tree actuals) rest
-  list_tree at (Part' q place first kind n) rest = Tree.part_and at (Tree.At place first (kind_tree kind)) n rest
+  pub listing_tree : Place → ListKind → Tree.Listing
+  listing_tree at (Actuals' shape actuals) = Tree.OfActuals at (actuals_tree actuals)
+  listing_tree at (Part' q place first kind n) = Tree.OfPart at (Tree.At place first (kind_tree kind)) n
 
   pub actuals_tree : {m : _} → Row_of-Actual m → Tree.Actuals
   actuals_tree end_of-Actual = Tree.no_actuals
-  actuals_tree (more_of-Actual actual rest) = actual_tree actual (actuals_tree rest)
+  actuals_tree (more_of-Actual actual rest) = Tree.actual_and (actual_tree actual) (actuals_tree rest)
 
-  pub actual_tree : Actual → Tree.Actuals → Tree.Actuals
-  actual_tree (Star place) rest = Tree.star_and place rest
-  actual_tree (Phrase' place first kind) rest = Tree.actual_and (Tree.At place first (kind_tree kind)) rest
+  pub actual_tree : Actual → Tree.Actual
+  actual_tree (Star place) = Tree.Star place
+  actual_tree (Phrase' place first kind) = Tree.Given (Tree.At place first (kind_tree kind))
 
   pub perhaps_tree : Held-Kind-IfThen-2 → Tree.Perhaps
   perhaps_tree None' = Tree.Missing
@@ -83,24 +87,37 @@ abbrev mutual
 
   pub items_tree : {m : _} → Row_of-Item m → Tree.Items
   items_tree end_of-Item = Tree.no_items
-  items_tree (more_of-Item labels place first kind rest) = Tree.item_and labels.items (Tree.At place first (kind_tree kind)) (items_tree rest)
+  items_tree (more_of-Item labels place first kind rest) = Tree.item_and (Tree.Labelled labels.items (Tree.At place first (kind_tree kind))) (items_tree rest)
 
   pub decls_tree : {m : _} → Row_of-Decl m → Tree.Decls
   decls_tree end_of-Decl = Tree.no_decls
-  decls_tree (more_of-Decl decl rest) = decl_tree decl (decls_tree rest)
+  decls_tree (more_of-Decl decl rest) = Tree.decl_and (decl_tree decl) (decls_tree rest)
 
-  pub decl_tree : Decl → Tree.Decls → Tree.Decls
-  decl_tree (Simple type names) rest = Tree.simple_and (spec_tree type) names.items rest
-  decl_tree (Array' type names shape bounds) rest = Tree.array_and (spec_tree type) names.items (bounds_tree bounds) rest
-  decl_tree (Proc procedure) rest = procedure_tree procedure rest
-  decl_tree (Class c) rest = Tree.class_and (class_tree c) rest
+  pub decl_tree : Decl → Tree.Decl
+  decl_tree (Simple type names) = Tree.Simple (spec_tree type) names.items
+  decl_tree (Array' type names shape bounds) = Tree.Array (spec_tree type) names.items (bounds_tree bounds)
+  decl_tree (Proc procedure) = procedure_tree procedure
+  decl_tree (Class c) = Tree.Class (class_tree c)
 
-  pub procedure_tree : ProcDecl → Tree.Decls → Tree.Decls
-  procedure_tree (ProcDecl' place result name formals q body_place first kind) rest = Tree.procedure_and place (option_map spec_tree result) name (map formal_tree formals.items) (Tree.At body_place first (kind_tree kind)) rest
+  pub procedure_tree : ProcDecl → Tree.Decl
+  procedure_tree (ProcDecl' place result name formals q body_place first kind) = Tree.Proc place (option_map spec_tree result) name (map formal_tree formals.items) (Tree.At body_place first (kind_tree kind))
 
   pub bounds_tree : {m : _} → Row_of-Bound m → Tree.Bounds
   bounds_tree end_of-Bound = Tree.no_bounds
-  bounds_tree (more_of-Bound place lower_place lower_first lower upper_place upper_first upper rest) = Tree.bound_and place (Tree.At lower_place lower_first (kind_tree lower)) (Tree.At upper_place upper_first (kind_tree upper)) (bounds_tree rest)
+  bounds_tree (more_of-Bound place lower_place lower_first lower upper_place upper_first upper rest) = Tree.bound_and (Tree.Between place (Tree.At lower_place lower_first (kind_tree lower)) (Tree.At upper_place upper_first (kind_tree upper))) (bounds_tree rest)
 
 abbrev pub tree : Phrase → Tree.Phrase
 tree p = Tree.At p.place p.first (kind_tree p.kind)
+
+-- The parts of a phrase in memory.
+abbrev pub link_tree : Link → Tree.Link
+link_tree l = Tree.Linked l.op l.place (tree l.right)
+
+abbrev pub list_tree : List → Tree.Listing
+list_tree l = listing_tree l.place l.kind
+
+abbrev pub item_tree : Item → Tree.Item
+item_tree i = Tree.Labelled i.labels.items (tree i.phrase)
+
+abbrev pub bound_tree : Bound → Tree.Bound
+bound_tree b = Tree.Between b.place (tree b.lower) (tree b.upper)

@@ -1,11 +1,16 @@
 ghost use Rattle.std.specs.Prelude.{◌≡◌, ◌≤◌, ◌<◌, ◌^◌, ◌∷◌, ◌++◌, [], IfOk, IfSome, MatchOption, None, Some, if◌then◌else◌, length};
 ghost use Rattle.std.specs.Str.Parse.{digits_value};
 ghost use Rattle.deck_reader.specs.Forms.{is_digits};
+ghost use Rattle.algolw_scanner.specs.Laws.{IsDeck};
+ghost use Rattle.algolw_meaning.specs.DeckFaults.{deck_fault};
 ghost use Rattle.algolw_meaning.specs.Sums.{term, sum_of_text, sum_of_card, sum_of_deck};
 ghost use Rattle.algolw_meaning.specs.Meaning.{first_card, sum_of_job};
 
+use algolw_parser::{Parsed, parse};
+use algolw_scanner::{Scanned, scan};
 use deck_reader::{Card, Job, split_once};
 use std::alloc::{AllocError, Global};
+use value_ops::{Diagnostic, Place};
 
 /// The largest INTEGER.
 const LARGEST: u64 = 2_147_483_647;
@@ -15,6 +20,27 @@ pub const SUM_STEPS: u32 = 2;
 
 /// The most digits of a number.
 const MOST_DIGITS: usize = 10;
+
+/// What is said of a deck that can't be run by now.
+pub const NOT_BY_NOW: Diagnostic = Diagnostic {
+    number: 90,
+    place: Place { card: 1, column: 1 },
+};
+
+/// The fault of a deck's tokens, or else of its form, where it has one.
+#[tactic(auto, unfolding(algolw_meaning::specs::DeckFaults::deck_fault))]
+pub fn deck_fault(alloc: Global, deck: &[Card]) -> Result<Option<Diagnostic>, AllocError>
+    requires { IsDeck deck.now }
+    ensures { IfOk result (λ fault. fault ≡ deck_fault deck.now) }
+{
+    match scan(alloc, deck)? {
+        Scanned::Bad(fault) => Ok(Some(fault)),
+        Scanned::Tokens(tokens) => match parse(alloc, tokens.as_slice())? {
+            Parsed::Tree(_) => Ok(None),
+            Parsed::Bad(fault) => Ok(Some(fault)),
+        },
+    }
+}
 
 /// The number that digits stand for.
 fn value_of(digits: &[u8]) -> Option<u64>

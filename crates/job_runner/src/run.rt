@@ -1,15 +1,16 @@
 ghost use Rattle.std.specs.Prelude.{◌≡◌, ◌≤◌, ◌++◌, None, IfOk, OnOk, length};
 ghost use Rattle.account_book.specs.Charges.{charge, reserve};
 ghost use Rattle.algolw_meaning.specs.Texts.{source_lines};
-ghost use Rattle.algolw_meaning.specs.Meaning.{ran_body, diagnosed_body};
+ghost use Rattle.algolw_meaning.specs.Meaning.{job_result, diagnosed, counts_of, ran_body, diagnosed_body};
 
-use crate::deck::{SUM_STEPS, sum_of_job};
+use crate::deck::{NOT_BY_NOW, SUM_STEPS, deck_fault, sum_of_job};
 use crate::text;
 use account_book::Counts;
 use algolw_meaning::{Ended, Ending};
 use deck_reader::{Card, Job};
 use std::alloc::{AllocError, Global};
 use std::sync::Arc;
+use value_ops::Diagnostic;
 
 /// A place to run jobs at, one after the other. It keeps what the last one took.
 #[derive(Drop)]
@@ -41,11 +42,13 @@ pub fn run_job(alloc: Global, desk: &mut Desk, job: &Arc<Job>) -> Result<Ended, 
     ensures within { IfOk result (λ e. charge e.counts ≤ reserve e.job) }
     ensures steps { IfOk result (λ e. desk.new.steps ≡ e.counts.steps) }
 {
-    let of: &Job = job;
+    if let Some(fault) = deck_fault(alloc, job.deck.as_slice())? {
+        return diagnose(alloc, desk, job, fault);
+    }
     match sum_of_job(alloc, job)? {
         Some((sum, card)) => {
             let counts = Counts {
-                cards: of.cards,
+                cards: job.cards,
                 steps: SUM_STEPS,
                 lines: 1,
             };
@@ -53,17 +56,31 @@ pub fn run_job(alloc: Global, desk: &mut Desk, job: &Arc<Job>) -> Result<Ended, 
             desk.steps = counts.steps;
             Ok(Ended::new(job.clone()?, body, counts, Ending::Normal))
         }
-        None => {
-            let counts = Counts {
-                cards: of.cards,
-                steps: 0,
-                lines: 0,
-            };
-            let body = write_diagnosed(alloc, of.deck.as_slice(), counts)?;
-            desk.steps = counts.steps;
-            Ok(Ended::new(job.clone()?, body, counts, Ending::Diagnosed))
-        }
+        None => diagnose(alloc, desk, job, NOT_BY_NOW),
     }
+}
+
+/// Ends a job whose deck has this diagnostic. It takes no step.
+fn diagnose(
+    alloc: Global,
+    desk: &mut Desk,
+    job: &Arc<Job>,
+    fault: Diagnostic,
+) -> Result<Ended, AllocError>
+    requires cards { length job.now.value.deck ≤ 2000 }
+    requires means { job_result job.now.value ≡ diagnosed fault job.now.value }
+    ensures job { IfOk result (λ e. e.job ≡ job.now.value) }
+    ensures counts { IfOk result (λ e. e.counts ≡ counts_of job.now.value.cards 0 0) }
+    ensures steps { IfOk result (λ e. desk.new.steps ≡ e.counts.steps) }
+{
+    let counts = Counts {
+        cards: job.cards,
+        steps: 0,
+        lines: 0,
+    };
+    let body = write_diagnosed(alloc, job.deck.as_slice(), fault, counts)?;
+    desk.steps = counts.steps;
+    Ok(Ended::new(job.clone()?, body, counts, Ending::Diagnosed))
 }
 
 /// The body of a job whose card wrote this sum.
@@ -80,17 +97,19 @@ fn write_ran(alloc: Global, card: &[u8], sum: u64, counts: Counts) -> Result<Vec
     Ok(out)
 }
 
-/// The body of a job whose deck can't be run.
-fn write_diagnosed(alloc: Global, deck: &[Card], counts: Counts) -> Result<Vec<u8>, AllocError>
+/// The body of a job whose deck has this diagnostic.
+fn write_diagnosed(
+    alloc: Global,
+    deck: &[Card],
+    fault: Diagnostic,
+    counts: Counts,
+) -> Result<Vec<u8>, AllocError>
     requires { length deck.now ≤ 2000 }
-    ensures { IfOk result (λ v. v.items ≡ diagnosed_body deck.now counts) }
+    ensures { IfOk result (λ v. v.items ≡ diagnosed_body deck.now fault counts) }
 {
     let mut out = Vec::new(alloc);
     push_source(&mut out, deck)?;
-    text::push_line(
-        &mut out,
-        b"DIAGNOSTIC 90 AT 1,1: DECK NOT OF THE PRESENT FORM",
-    )?;
+    text::push_diagnostic_line(&mut out, fault)?;
     text::push_sum_line(&mut out, counts)?;
     Ok(out)
 }

@@ -1,11 +1,12 @@
 ghost use Rattle.std.specs.Prelude.{◌≡◌, ◌≤◌, ◌++◌, ◌∷◌, [], OnOk, decimal, length};
 ghost use Rattle.short_text.specs.Blanks.{right};
-ghost use Rattle.algolw_meaning.specs.Texts.{line, source_line, sum_line};
+ghost use Rattle.algolw_meaning.specs.Texts.{line, source_line, sum_line, place_text, diagnostic_head, diagnostic_line};
 
 use account_book::{Counts, charge_of};
 use itoa::Buffer;
 use line_text::Line;
 use std::alloc::{AllocError, Global};
+use value_ops::{Diagnostic, Place};
 
 /// The columns of a card's number, of a count, and of an INTEGER that is printed.
 const NUMBER_WIDTH: usize = 4;
@@ -90,6 +91,36 @@ fn source_text(number: u32, count: &[u8], card: &[u8]) -> Line
     line.blanks(2);
     line.place(card.len(), card);
     line
+}
+
+/// Adds a card's number and a column.
+#[tactic(auto, unfolding(algolw_meaning::specs::Texts::place_text))]
+fn push_place(out: &mut Vec<u8>, place: Place) -> Result<(), AllocError>
+    ensures { OnOk result (out.new.items ≡ out.old.items ++ place_text place) }
+{
+    push_number(out, u64::from(place.card))?;
+    out.push(b',')?;
+    push_number(out, u64::from(place.column))
+}
+
+/// Adds the number of a diagnostic, and its place.
+#[tactic(auto, unfolding(algolw_meaning::specs::Texts::diagnostic_head))]
+fn push_diagnostic_head(out: &mut Vec<u8>, fault: Diagnostic) -> Result<(), AllocError>
+    ensures { OnOk result (out.new.items ≡ out.old.items ++ diagnostic_head fault) }
+{
+    out.extend_from_slice(b"DIAGNOSTIC ")?;
+    push_number(out, u64::from(fault.number))?;
+    out.extend_from_slice(b" AT ")?;
+    push_place(out, fault.place)
+}
+
+/// Adds the line of a diagnostic.
+pub fn push_diagnostic_line(out: &mut Vec<u8>, fault: Diagnostic) -> Result<(), AllocError>
+    ensures { OnOk result (out.new.items ≡ out.old.items ++ diagnostic_line fault) }
+{
+    push_diagnostic_head(out, fault)?;
+    out.extend_from_slice(b": ")?;
+    push_line(out, fault.text())
 }
 
 /// Adds the line with what a job used and its charge.

@@ -1,6 +1,7 @@
 use Rattle.algolw_scanner.proofs.One.{if_only, said}
 use Rattle.algolw_scanner.proofs.Allowed.{allowed_clean}
-use Rattle.algolw_scanner.proofs.Decks.{if_placed}
+use Rattle.algolw_scanner.proofs.Keeps.{if_placed}
+use Rattle.algolw_scanner.proofs.Pieces.{if_read}
 use Rattle.algolw_scanner.proofs.scanning.scan.Goals as goal
 
 pub returns-clause-only : goal.returns-clause-only
@@ -14,3 +15,6 @@ returns-clause-said c = said c.args.deck.now c.deck_tokens.result c.deck_tokens.
 
 pub returns-clause-placed : goal.returns-clause-placed
 returns-clause-placed c = if_placed c.args.deck.now c.deck_tokens.result c.requires (said c.args.deck.now c.deck_tokens.result c.deck_tokens.ensures)
+
+pub returns-clause-read : goal.returns-clause-read
+returns-clause-read c = if_read c.args.deck.now c.deck_tokens.result (said c.args.deck.now c.deck_tokens.result c.deck_tokens.ensures)
