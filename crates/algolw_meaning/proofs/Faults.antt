@@ -1,11 +1,10 @@
 -- A deck has the diagnostic of its tokens, or else of its form, or it spells a program.
-use Rattle.std.proofs.Common.{◌≡◌, List, ◌∷◌, ◌++◌, ℕ, inl, inr, ap, refl, subst, sym, ◌∙◌, Option, Some, None}
-use Rattle.value_ops.specs.declared.places.Diagnostic.{Diagnostic}
+use Rattle.std.proofs.Common.{◌≡◌, List, ℕ, inl, inr, refl, subst, sym, Option, Some}
 use Rattle.algolw_tree.specs.declared.tokens.Token.{Token}
 use Rattle.algolw_tree.specs.Tokens.{AreTokens}
 use Rattle.algolw_tree.specs.Programs.{Answer, Program, Unexpected, TooDeep, IsAnswer, IsEnded}
 use Rattle.algolw_scanner.specs.Decks.{Reading, AllTokens, FirstFault, scanned}
-use Rattle.algolw_scanner.specs.Laws.{IsDeck, IsReading, AreOfDeck}
+use Rattle.algolw_scanner.specs.Laws.{IsReading, AreOfDeck}
 use Rattle.algolw_scanner.proofs.Pieces.{scanned_is}
 use Rattle.algolw_scanner.proofs.Keeps.{tokens_keep}
 use Rattle.algolw_grammar.specs.Parsing.{parsed, diagnostic_of}

@@ -1,5 +1,6 @@
 ghost use Rattle.algolw_meaning.specs.DeckFaults.{DeckFaults};
 ghost use Rattle.algolw_meaning.specs.Laws.{ResultWithin};
+ghost use Rattle.algolw_meaning.specs.TypingDecks.{DecksHaveTheirFaults};
 
 /// A job is charged at least its cards and at most its reserve.
 pub fn result_within()
@@ -9,4 +10,9 @@ pub fn result_within()
 /// A deck has the diagnostic of its tokens, or else of its form, or it spells a program.
 pub fn faults_of_decks()
     ensures { DeckFaults }
+{}
+
+/// Each deck of a table has exactly the diagnostics of its names and types that stand beside it.
+pub fn decks_have_their_faults()
+    ensures { DecksHaveTheirFaults }
 {}

@@ -1,8 +1,10 @@
-ghost use Rattle.std.specs.Prelude.{◌≡◌, ◌+◌, ◌≤◌, ◌<◌, ◌++◌, ◌∷◌, [], length, replicate};
-ghost use Rattle.std.specs.Cmp.{partial_equiv_from_equiv};
-ghost use Rattle.std.specs.Cmp.Lexicographic.{nat_list_eq_equiv};
+ghost use Rattle.std.specs.Prelude.{◌≡◌, ◌+◌, ◌≤◌, ◌<◌, ◌++◌, ◌∷◌, [], length, replicate, Some, refl};
+ghost use Rattle.std.specs.Cmp.{partial_equiv_from_equiv, partial_order_from_agreeing_total};
+ghost use Rattle.std.specs.Cmp.Lexicographic.{nat_list_eq_equiv, nat_list_cmp_total};
 ghost use Rattle.std.specs.Str.{bytes_eq};
+ghost use Rattle.short_text.specs.Order.{bytes_cmp, equal_where_neither_is_less};
 
+use std::cmp::Ordering;
 use std::marker::Model;
 
 /// At most `N` bytes, held in place: a copy takes no memory.
@@ -104,4 +106,29 @@ impl<const N: usize> PartialEq for Short<N> {
 
 impl<const N: usize> Eq for Short<N> {
     ghost laws = { nat_list_eq_equiv };
+}
+
+/// In the order of the bytes held, as of a dictionary.
+impl<const N: usize> PartialOrd for Short<N> {
+    ghost partial_cmp = { λ a b. Some (bytes_cmp a b) };
+
+    ghost laws = { partial_order_from_agreeing_total bytes_cmp nat_list_cmp_total (λ a b. refl) equal_where_neither_is_less };
+
+    fn partial_cmp(&self, other: &Short<N>) -> Option<Ordering> {
+        Some(self.cmp(other))
+    }
+}
+
+impl<const N: usize> Ord for Short<N> {
+    ghost cmp = { bytes_cmp };
+
+    ghost total = { nat_list_cmp_total };
+
+    ghost matches_partial_cmp = { λ a b. refl };
+
+    ghost matches_eq = { equal_where_neither_is_less };
+
+    fn cmp(&self, other: &Short<N>) -> Ordering {
+        self.as_slice().cmp(other.as_slice())
+    }
 }

@@ -10,13 +10,13 @@ pub struct Place {
     pub column: u8,
 }
 
-/// What is wrong at a place of a deck, by its number.
-#[derive(Clone, Copy, Debug, PartialEq, Eq)]
+/// What is wrong at a place of a deck, by its number. The order is that of the places, and at one place that of the numbers.
+#[derive(Clone, Copy, Debug, PartialEq, Eq, PartialOrd, Ord)]
 pub struct Diagnostic {
-    /// The number: 10 to 16, 20, 21, 30 to 43 or 90.
-    pub number: u8,
     /// The place.
     pub place: Place,
+    /// The number: 10 to 16, 20, 21, 30 to 43 or 90.
+    pub number: u8,
 }
 
 impl Diagnostic {

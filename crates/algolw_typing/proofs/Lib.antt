@@ -1,0 +1,11 @@
+mod Declarations
+mod FaultOrder
+mod NameTypes
+mod KeptTrees
+mod Decided
+mod DecidedNames
+mod GoodScopes
+mod GoodBlocks
+mod SoundOuts
+mod SoundParts
+mod WholeTrees

@@ -1,0 +1,16 @@
+pub mod Names
+pub mod Types
+pub mod Verdicts
+pub mod Rows
+pub mod Meanings
+pub mod Actuals
+pub mod Scopes
+pub mod Typed
+pub mod Typing
+pub mod Faults
+pub mod Naming
+pub mod Programs
+pub mod ProgramView
+pub mod Laws
+pub mod Whole
+pub mod Kept

@@ -1,0 +1,5 @@
+mod FieldPositions
+mod KnownNumbers
+mod Membership
+mod SameSets
+mod SetNumbers

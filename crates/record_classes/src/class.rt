@@ -1,0 +1,67 @@
+ghost use Rattle.std.specs.Prelude.{◌≡◌, ◌<◌, IfOk, length};
+ghost use Rattle.record_classes.specs.Classes.{position_of};
+
+use std::alloc::AllocError;
+use std::collections::BTreeMap;
+use std::marker::Model;
+use value_ops::{Name, SimpleType};
+
+/// A record class.
+#[derive(Drop)]
+pub(crate) struct Class {
+    name: Name,
+    fields: Vec<(Name, SimpleType)>,
+    /// Where among the fields each name stands first.
+    positions: BTreeMap<Name, u32>,
+}
+
+impl Model for Class {
+    ghost use Rattle.record_classes.specs.Classes.{Class as ClassView};
+
+    ghost Value = { ClassView };
+
+    ghost use Rattle.record_classes.specs.Held.{Positions};
+
+    ghost view = { λ c. record { name = c.name; fields = c.fields.items } };
+
+    ghost invariant = { λ c. Positions c.fields.items c.positions };
+}
+
+impl Class {
+    /// A class with this name and these fields.
+    pub(crate) fn new(name: Name, fields: Vec<(Name, SimpleType)>) -> Result<Class, AllocError>
+        requires { length fields.items < 4294967295 }
+        ensures { IfOk result (λ class. class ≡ record { name = name; fields = fields.items }) }
+    {
+        let mut positions = BTreeMap::new(*fields.allocator());
+        for (position, field) in fields.iter().enumerate() {
+            positions.entry(field.0)?.or_insert(position as u32);
+        }
+        Ok(Class {
+            name,
+            fields,
+            positions,
+        })
+    }
+
+    /// Its name.
+    pub(crate) fn name(&self) -> &Name
+        ensures { result.now ≡ self.now.name }
+    {
+        &self.name
+    }
+
+    /// Its fields, each with its type.
+    pub(crate) fn fields(&self) -> &[(Name, SimpleType)]
+        ensures { result.now ≡ self.now.fields }
+    {
+        self.fields.as_slice()
+    }
+
+    /// Where among the fields the first one of a name stands.
+    pub(crate) fn find(&self, field: &Name) -> Option<u32>
+        ensures { result ≡ position_of self.now.fields field.now }
+    {
+        self.positions.get(field).copied()
+    }
+}

@@ -1,0 +1,12 @@
+//! The record classes of a program, and the sets of them that its references are to.
+#![tactic(auto)]
+
+mod class;
+mod class_set;
+mod laws;
+mod table;
+#[cfg(test)]
+mod tests;
+
+pub use laws::{classes_are_found, sets_are_numbered};
+pub use table::ClassTable;
