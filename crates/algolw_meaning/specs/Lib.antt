@@ -3,6 +3,7 @@ pub mod Sums
 pub mod DeckFaults
 pub mod DeckDiagnostics
 pub mod TypingDecks
+pub mod ProgramDecks
 pub mod Meaning
 pub mod EndedView
 pub mod Laws

@@ -1,5 +1,6 @@
 ghost use Rattle.algolw_meaning.specs.DeckFaults.{DeckFaults};
 ghost use Rattle.algolw_meaning.specs.Laws.{ResultWithin};
+ghost use Rattle.algolw_meaning.specs.ProgramDecks.{DecksHaveTheirParts};
 ghost use Rattle.algolw_meaning.specs.TypingDecks.{DecksHaveTheirFaults};
 
 /// A job is charged at least its cards and at most its reserve.
@@ -15,4 +16,9 @@ pub fn faults_of_decks()
 /// Each deck of a table has exactly the diagnostics of its names and types that stand beside it.
 pub fn decks_have_their_faults()
     ensures { DecksHaveTheirFaults }
+{}
+
+/// Each deck of a table is a program with exactly the names, record classes and statements that stand beside it.
+pub fn decks_have_their_parts()
+    ensures { DecksHaveTheirParts }
 {}
