@@ -1,0 +1,54 @@
+-- What a kind of phrase adds, by the tree that it is.
+use Rattle.std.proofs.Common.{◌≡◌, List, [], ◌∷◌, ℕ, Result, sym, ap, subst, ◌∙◌, append_assoc}
+use Rattle.std.specs.Result.{OnOk}
+use Rattle.value_ops.specs.declared.places.Place.{Place}
+use Rattle.algolw_tree.specs.Tree as Tree
+use Rattle.algolw_tree.specs.Tree.{Placed}
+use Rattle.algolw_typing.specs.Naming.{Naming, Frame, NamePath, and, naming, kind_naming, perhaps_naming, phrases_naming, decl_naming, declares, inside, scope_of}
+use Rattle.block_scopes.specs.declared.resolver.Resolver.{Resolver}
+use Rattle.std.proofs.lemmas.Result.{on_ok_weaker}
+use Rattle.block_scopes.specs.Adding.{Adds}
+use Rattle.block_scopes.proofs.Added.{adds_and}
+use Rattle.block_scopes.specs.Parts.{listing_naming, controlled_naming}
+
+pub and_assoc : (a b c : Naming) → and (and a b) c ≡ and a (and b c)
+and_assoc a b c = simp append_assoc
+
+pub by_naming : {T E : Type 0} (r : Result T E) (a b : Resolver) (m n : Naming) → m ≡ n → OnOk r (Adds a b m) → OnOk r (Adds a b n)
+by_naming r a b m n e h = subst (λ (o : Naming). OnOk r (Adds a b o)) e h
+
+pub by_kind : {T E : Type 0} (r : Result T E) (a b : Resolver) (f : Frame) (path : NamePath) (p : Place) (k k' : Tree.Kind) → k ≡ k' → OnOk r (Adds a b (kind_naming f path p k')) → OnOk r (Adds a b (kind_naming f path p k))
+by_kind r a b f path p k k' e h = subst (λ (z : Tree.Kind). OnOk r (Adds a b (kind_naming f path p z))) (sym e) h
+
+pub by_listing : {T E : Type 0} (r : Result T E) (a b : Resolver) (f : Frame) (path : NamePath) (l l' : Tree.Listing) → l ≡ l' → OnOk r (Adds a b (listing_naming f path l')) → OnOk r (Adds a b (listing_naming f path l))
+by_listing r a b f path l l' e h = subst (λ (z : Tree.Listing). OnOk r (Adds a b (listing_naming f path z))) (sym e) h
+
+pub by_decl : {T E : Type 0} (r : Result T E) (a b : Resolver) (f : Frame) (around path : NamePath) (d d' : Tree.Decl) → d ≡ d' → OnOk r (Adds a b (decl_naming f around path d')) → OnOk r (Adds a b (decl_naming f around path d))
+by_decl r a b f around path d d' e h = subst (λ (z : Tree.Decl). OnOk r (Adds a b (decl_naming f around path z))) (sym e) h
+
+-- a FOR declares its control name alone
+pub for_step_naming : (f : Frame) (path : NamePath) (p : Place) (n : List ℕ) (xs : List Placed) (a : Tree.Phrase) (s : Tree.Perhaps) (b c : Tree.Phrase) → xs ≡ (n, p) ∷ []
+    → controlled_naming f path xs (and (naming (inside f xs) path a) (and (perhaps_naming (inside f xs) path s) (naming (inside f xs) path b))) c ≡ kind_naming f path p (Tree.ForStep n a s b c)
+for_step_naming f path p n xs a s b c e =
+    let g : Frame = inside f ((n, p) ∷ []) in
+    let last : Naming = naming g (scope_of ((n, p) ∷ []) ∷ path) c in
+    ap (λ (ys : List Placed). controlled_naming f path ys (and (naming (inside f ys) path a) (and (perhaps_naming (inside f ys) path s) (naming (inside f ys) path b))) c) e
+    ∙ ap (and (declares f ((n, p) ∷ []))) (and_assoc (naming g path a) (and (perhaps_naming g path s) (naming g path b)) last ∙ ap (and (naming g path a)) (and_assoc (perhaps_naming g path s) (naming g path b) last))
+
+pub for_list_naming : (f : Frame) (path : NamePath) (p : Place) (n : List ℕ) (xs : List Placed) (as_ : Tree.Phrases) (c : Tree.Phrase) → xs ≡ (n, p) ∷ []
+    → controlled_naming f path xs (phrases_naming (inside f xs) path as_) c ≡ kind_naming f path p (Tree.ForList n as_ c)
+for_list_naming f path p n xs as_ c e = ap (λ (ys : List Placed). controlled_naming f path ys (phrases_naming (inside f ys) path as_) c) e
+
+-- a scope round a body alone
+pub controlled : {T E : Type 0} (r : Result T E) (a b c d : Resolver) (f inner : Frame) (path : NamePath) (xs : List Placed) (head : Naming) (body : Tree.Phrase) → Adds a b (declares f xs) → inner ≡ inside f xs → Adds b c head
+    → OnOk r (Adds c d (naming inner (scope_of xs ∷ path) body)) → OnOk r (Adds a d (controlled_naming f path xs head body))
+controlled r a b c d f inner path xs head body scope is before h =
+    let last : Naming = naming (inside f xs) (scope_of xs ∷ path) body in
+    on_ok_weaker r (λ g. adds_and a b d (declares f xs) (and head last) scope (adds_and b c d head last before g)) (subst (λ (i : Frame). OnOk r (Adds c d (naming i (scope_of xs ∷ path) body))) is h)
+
+-- what stands before the body, in the frame inside the scope
+pub range_inside : (b c : Resolver) (inner g : Frame) (path : NamePath) (x : Tree.Phrase) (s : Tree.Perhaps) (y : Tree.Phrase) → inner ≡ g → Adds b c (and (naming inner path x) (and (perhaps_naming inner path s) (naming inner path y))) → Adds b c (and (naming g path x) (and (perhaps_naming g path s) (naming g path y)))
+range_inside b c inner g path x s y e h = subst (λ (i : Frame). Adds b c (and (naming i path x) (and (perhaps_naming i path s) (naming i path y)))) e h
+
+pub values_inside : (b c : Resolver) (inner g : Frame) (path : NamePath) (as_ : Tree.Phrases) → inner ≡ g → Adds b c (phrases_naming inner path as_) → Adds b c (phrases_naming g path as_)
+values_inside b c inner g path as_ e h = subst (λ (i : Frame). Adds b c (phrases_naming i path as_)) e h

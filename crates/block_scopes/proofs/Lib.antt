@@ -1,0 +1,10 @@
+pub mod Added
+pub mod Arms
+pub mod Declared
+pub mod Firsts
+pub mod NameNumbers
+pub mod PlaceOrder
+pub mod Rows
+pub mod Sizes
+pub mod StableSorts
+pub mod Standards

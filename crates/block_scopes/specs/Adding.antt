@@ -1,0 +1,18 @@
+-- What a part of a program adds to what was found before it.
+use Rattle.std.specs.Prelude.{◌≡◌, ◌++◌, map}
+use Rattle.algolw_typing.specs.Naming as naming
+use Rattle.algolw_typing.specs.Naming.{Naming}
+use Rattle.block_scopes.specs.declared.frame.Frame.{Frame}
+use Rattle.block_scopes.specs.declared.resolver.FoundUse.{FoundUse}
+use Rattle.block_scopes.specs.declared.resolver.Resolver.{Resolver}
+
+abbrev pub frame_view : Frame → naming.Frame
+frame_view f = record { level = f.level; slot = f.slot }
+
+abbrev pub use_view : FoundUse → naming.Used
+use_view u = record { place = u.place; target = u.target }
+
+pub record Adds (old new : Resolver) (n : Naming) : Type 0 where
+  pub names : new.names.items ≡ old.names.items ++ n.names
+  pub uses : map use_view new.uses.items ≡ map use_view old.uses.items ++ n.uses
+  pub faults : new.faults.items ≡ old.faults.items ++ n.faults

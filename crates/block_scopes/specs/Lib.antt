@@ -1,0 +1,7 @@
+pub mod Adding
+pub mod Declaring
+pub mod Held
+pub mod Parts
+pub mod Paths
+pub mod Resolution
+pub mod Standards

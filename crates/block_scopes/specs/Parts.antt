@@ -1,0 +1,31 @@
+-- What parts of phrases add.
+use Rattle.std.specs.Prelude.{List, ◌∷◌, Option, Some, None}
+use Rattle.std.specs.declared.boxed.Box.{Box}
+use Rattle.std.specs.declared.alloc.Global.{Global}
+use Rattle.algolw_tree.specs.declared.phrases.Phrase.{Phrase}
+use Rattle.algolw_tree.specs.Tree as Tree
+use Rattle.algolw_tree.specs.Tree.{Placed}
+use Rattle.algolw_tree.specs.View.{tree}
+use Rattle.algolw_typing.specs.Naming.{Naming, Frame, NamePath, nothing, and, scope_of, block_names, declares, inside, naming, actuals_naming, decls_naming, items_naming}
+
+-- a phrase that may be missing
+abbrev pub perhaps_of : Option (Box Phrase Global) → Tree.Perhaps
+perhaps_of None = Tree.Missing
+perhaps_of (Some a) = Tree.There (tree a.value)
+
+abbrev pub listing_naming : Frame → NamePath → Tree.Listing → Naming
+listing_naming frame path (Tree.OfActuals q actuals) = actuals_naming frame path actuals
+listing_naming frame path (Tree.OfPart q a n) = naming frame path a
+
+abbrev pub actual_naming : Frame → NamePath → Tree.Actual → Naming
+actual_naming frame path (Tree.Star p) = nothing
+actual_naming frame path (Tree.Given a) = naming frame path a
+
+abbrev pub block_naming : Frame → NamePath → Tree.Decls → Tree.Items → Naming
+block_naming frame path decls items =
+    let xs = block_names decls items in
+    and (declares frame xs) (and (decls_naming (inside frame xs) path (scope_of xs ∷ path) decls) (items_naming (inside frame xs) (scope_of xs ∷ path) items))
+
+-- a scope that belongs to its body alone, and what stands before the body
+abbrev pub controlled_naming : Frame → NamePath → List Placed → Naming → Tree.Phrase → Naming
+controlled_naming frame path xs head body = and (declares frame xs) (and head (naming (inside frame xs) (scope_of xs ∷ path) body))

@@ -1,0 +1,4 @@
+pub mod Rests
+pub mod EachPart
+pub mod Joins
+pub mod Sets

@@ -1,0 +1,8 @@
+use Rattle.std.proofs.Common.{◌≡◌, drop, map}
+use Rattle.algolw_typing.specs.Verdicts.{Verdict, all_statements}
+use Rattle.typing_rules.specs.View.{phrase_type}
+use Rattle.typing_rules.proofs.conditions.statements.Given as goal
+
+-- what is left of the parts decides
+abbrev pub invariant-loop-part : goal.invariant-loop-part
+invariant-loop-part l = (row : Verdict) → all_statements l.place (map phrase_type l.parts) row ≡ all_statements l.place (map phrase_type (drop l.part-index l.parts)) row

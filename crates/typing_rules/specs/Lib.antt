@@ -1,0 +1,4 @@
+pub mod View
+pub mod MeaningView
+pub mod Parts
+pub mod Lefts
