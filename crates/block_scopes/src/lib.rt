@@ -14,4 +14,6 @@ mod standard;
 #[cfg(test)]
 mod tests;
 
+pub use path::ScopePath;
+pub use scope::Scope;
 pub use scopes::{Scopes, resolve};

@@ -17,5 +17,5 @@ pub use rows::{
     if_row, integer_row, is_row, item_row, link_row, negated_row, procedure_row, program_row,
     relation_row, while_row,
 };
-pub use types::{PhraseType, ValueType};
+pub use types::{PhraseType, ValueType, add_class};
 pub use verdicts::{NoType, Verdict};

@@ -124,7 +124,7 @@ fn union<'a>(
     let mut all = Vec::with_capacity(arena, classes.len() + others.len())?;
     all.extend_from_slice(others)?;
     for class in classes.iter().rev() {
-        add(&mut all, *class)?;
+        add_class(&mut all, *class)?;
     }
     if all.len() == others.len() {
         return Ok(others);
@@ -133,7 +133,7 @@ fn union<'a>(
 }
 
 /// Puts a class into a set, before the first that is behind it.
-fn add(classes: &mut Vec<Place, &Bump>, class: Place) -> Result<(), AllocError>
+pub fn add_class(classes: &mut Vec<Place, &Bump>, class: Place) -> Result<(), AllocError>
     ensures { OnOk result (classes.new.items ≡ with_class class classes.old.items) }
 {
     for (index, other) in classes.iter().enumerate() {

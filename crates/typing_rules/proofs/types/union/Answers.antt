@@ -19,7 +19,7 @@ pub loop-class-preserved : goal.loop-class-preserved
 loop-class-preserved c =
     let turn = YieldsList-turn (YieldsList-from_rev_slice c.args.classes.now cc) c.loop-class.yielded _ c.loop-class.yielded_by _ _ c.in-Some.class c.in-Some.is c.next.ensures.steps in
     let step = at_class _ c.loop-class.all.items _ _ turn in
-    rw (length_push c.loop-class.yielded c.in-Some.class, c.in_ok-add.ensures) (sym step ∙ c.loop-class.invariant)
+    rw (length_push c.loop-class.yielded c.in-Some.class, c.in_ok-add_class.ensures) (sym step ∙ c.loop-class.invariant)
 
 pub returns-then-len-others : goal.returns-then-len-others
 returns-then-len-others c =

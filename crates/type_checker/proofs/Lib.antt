@@ -1,0 +1,4 @@
+pub mod Again
+pub mod ClassSets
+pub mod Knowing
+pub mod Placing
