@@ -9,3 +9,12 @@ mod GoodBlocks
 mod SoundOuts
 mod SoundParts
 mod WholeTrees
+mod KnownTypes
+mod KnownNames
+mod KnownScopes
+mod KnownBlocks
+mod KnownOuts
+mod KnownParts
+mod KnownDecls
+mod KnownTrees
+mod KnownPrograms

@@ -145,7 +145,7 @@ none_placed : (d : Diagnostic) (es : List Diagnostic) → NoFaults (inserted d e
 none_placed d [] h = h
 none_placed d (e ∷ es) h = placed_some (is_in_front d e) d e (e ∷ es) (inserted d es) h
 
-none_in_order : (ds : List Diagnostic) → NoFaults (in_order ds) → NoFaults ds
+pub none_in_order : (ds : List Diagnostic) → NoFaults (in_order ds) → NoFaults ds
 none_in_order [] h = tt
 none_in_order (d ∷ ds) h = none_placed d (in_order ds) h
 

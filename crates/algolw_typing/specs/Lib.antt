@@ -14,3 +14,4 @@ pub mod ProgramView
 pub mod Laws
 pub mod Whole
 pub mod Kept
+pub mod Known

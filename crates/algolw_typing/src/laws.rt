@@ -1,6 +1,7 @@
 ghost use Rattle.algolw_typing.specs.Laws.{OneDeclaration, FaultsInOrder, NoValues};
 ghost use Rattle.algolw_typing.specs.Whole.{TypesEverywhere};
 ghost use Rattle.algolw_typing.specs.Kept.{NothingForgotten};
+ghost use Rattle.algolw_typing.specs.Known.{NothingUnknown};
 
 /// A name has at most one declaration along a path: the first in the innermost scope that declares it.
 pub fn one_declaration()
@@ -26,4 +27,10 @@ pub fn types_everywhere()
 /// The typed tree of a phrase keeps all of it: its places, first tokens, statements, literals, operators and parts.
 pub fn nothing_forgotten()
     ensures { NothingForgotten }
+{}
+
+/// In a program without faults each name of the typed tree is one that the program declares, and each class of a type,
+/// there and in a record class, is one of its record classes.
+pub fn nothing_unknown()
+    ensures { NothingUnknown }
 {}

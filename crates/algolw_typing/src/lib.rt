@@ -3,4 +3,7 @@
 
 mod laws;
 
-pub use laws::{faults_in_order, no_values, nothing_forgotten, one_declaration, types_everywhere};
+pub use laws::{
+    faults_in_order, no_values, nothing_forgotten, nothing_unknown, one_declaration,
+    types_everywhere,
+};

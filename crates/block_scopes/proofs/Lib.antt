@@ -1,4 +1,5 @@
 pub mod Added
+pub mod ClassAdded
 pub mod Arms
 pub mod Declared
 pub mod Firsts

@@ -9,19 +9,14 @@ use Rattle.std.specs.Ordering.{is_lt}
 use Rattle.value_ops.specs.declared.places.Place.{Place}
 use Rattle.value_ops.specs.declared.places.Diagnostic.{Diagnostic}
 use Rattle.algolw_typing.specs.Types.{is_before}
+use Rattle.typing_rules.proofs.Sets.{place_total, place_less}
 use Rattle.algolw_typing.specs.Laws.{place_cmp, diagnostic_cmp}
 use Rattle.algolw_typing.specs.Faults.{is_in_front, inserted, in_order}
 use Rattle.algolw_typing.specs.Programs.{inserted_by, by_place}
 use Rattle.block_scopes.proofs.StableSorts.{put, put_all, stable_is_put}
 
-pub place_total : IsTotalOrder place_cmp
-place_total = then_total (on_total (λ (p : Place). p.card) nat_cmp_total) (on_total (λ (p : Place). p.column) nat_cmp_total)
-
 pub diagnostic_total : IsTotalOrder diagnostic_cmp
 diagnostic_total = then_total (on_total (λ (d : Diagnostic). d.place) place_total) (on_total (λ (d : Diagnostic). d.number) nat_cmp_total)
-
-place_less : (p q : Place) → is_lt (place_cmp p q) ≡ is_before p q
-place_less p q = grind (arith, nat_tests)
 
 not_in_front : (d e : Diagnostic) → is_lt (diagnostic_cmp e d) ≡ not (is_in_front d e)
 not_in_front d e = grind (arith, nat_tests)

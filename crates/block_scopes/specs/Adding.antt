@@ -2,6 +2,7 @@
 use Rattle.std.specs.Prelude.{◌≡◌, ◌++◌, map}
 use Rattle.algolw_typing.specs.Naming as naming
 use Rattle.algolw_typing.specs.Naming.{Naming}
+use Rattle.block_scopes.specs.ClassView.{class_view}
 use Rattle.block_scopes.specs.declared.frame.Frame.{Frame}
 use Rattle.block_scopes.specs.declared.resolver.FoundUse.{FoundUse}
 use Rattle.block_scopes.specs.declared.resolver.Resolver.{Resolver}
@@ -15,4 +16,5 @@ use_view u = record { place = u.place; target = u.target }
 pub record Adds (old new : Resolver) (n : Naming) : Type 0 where
   pub names : new.names.items ≡ old.names.items ++ n.names
   pub uses : map use_view new.uses.items ≡ map use_view old.uses.items ++ n.uses
+  pub classes : map class_view new.classes.items ≡ map class_view old.classes.items ++ n.classes
   pub faults : new.faults.items ≡ old.faults.items ++ n.faults

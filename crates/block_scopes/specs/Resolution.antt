@@ -9,8 +9,10 @@ use Rattle.algolw_tree.specs.declared.programs.Use.{Use}
 use Rattle.algolw_tree.specs.Tree.{Phrase, Placed}
 use Rattle.algolw_typing.specs.Types.{is_place}
 use Rattle.algolw_typing.specs.Naming.{Used, program_naming}
-use Rattle.algolw_typing.specs.Programs.{ordered_names, ordered_uses}
+use Rattle.algolw_typing.specs.Programs.{ordered_names, ordered_uses, ordered_classes}
 use Rattle.algolw_typing.specs.Faults.{in_order}
+use Rattle.block_scopes.specs.ClassView.{class_view}
+use Rattle.block_scopes.specs.declared.classes.FoundClass.{FoundClass}
 
 -- where among names that are placed the first of this name stands
 abbrev pub first_of : List Placed → List ℕ → Option ℕ
@@ -30,8 +32,9 @@ number_of names (Some p) = number_at names p
 abbrev pub numbered_use : List NameInfo → Used → Use
 numbered_use names u = record { place = u.place; target = number_of names u.target }
 
--- The names of a program in order of place, its uses with the numbers of the names that they mean, and its faults 30 and 31 in order.
-pub record IsResolution (x : Phrase) (names : List NameInfo) (uses : List Use) (faults : List Diagnostic) : Type 0 where
+-- The names of a program in order of place, its uses with the numbers of the names that they mean, its record classes in order of place, and its faults 30 and 31 in order.
+pub record IsResolution (x : Phrase) (names : List NameInfo) (uses : List Use) (found : List FoundClass) (faults : List Diagnostic) : Type 0 where
   pub declared : names ≡ ordered_names (program_naming x)
   pub used : uses ≡ map (numbered_use names) (ordered_uses (program_naming x))
+  pub classes : map class_view found ≡ ordered_classes (program_naming x)
   pub wrong : faults ≡ in_order (program_naming x).faults

@@ -1,7 +1,8 @@
-//! Which declaration each name of a program means.
+//! Which declaration each name of a program means, and what record classes it has.
 #![tactic(auto)]
 
 mod blocks;
+mod classes;
 mod frame;
 mod numbers;
 mod order;
@@ -14,6 +15,8 @@ mod standard;
 #[cfg(test)]
 mod tests;
 
+pub use classes::{Field, FoundClass};
+pub use order::sort_faults;
 pub use path::ScopePath;
 pub use scope::Scope;
 pub use scopes::{Scopes, resolve};

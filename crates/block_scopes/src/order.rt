@@ -2,7 +2,9 @@ ghost use Rattle.std.specs.Prelude.{◌≡◌, OnOk, map};
 ghost use Rattle.algolw_typing.specs.Faults.{in_order};
 ghost use Rattle.algolw_typing.specs.Programs.{by_place};
 ghost use Rattle.block_scopes.specs.Adding.{use_view};
+ghost use Rattle.block_scopes.specs.ClassView.{class_view};
 
+use crate::classes::FoundClass;
 use crate::resolver::FoundUse;
 use algolw_tree::NameInfo;
 use std::alloc::AllocError;
@@ -21,6 +23,14 @@ pub fn sort_uses(uses: &mut Vec<FoundUse>) -> Result<(), AllocError>
     ensures { OnOk result (map use_view uses.new.items ≡ by_place (λ found. found.place) (map use_view uses.old.items)) }
 {
     uses.sort_by_key(|found| found.place)?;
+    Ok(())
+}
+
+/// Puts record classes in order of place.
+pub fn sort_classes(classes: &mut Vec<FoundClass>) -> Result<(), AllocError>
+    ensures { OnOk result (map class_view classes.new.items ≡ by_place (λ class. class.place) (map class_view classes.old.items)) }
+{
+    classes.sort_by_key(|class| class.place)?;
     Ok(())
 }
 

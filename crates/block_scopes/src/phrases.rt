@@ -16,7 +16,7 @@ use algolw_tree::{Actual, Bound, Decl, Item, Kind, Link, List, ListKind, Phrase,
 use std::alloc::AllocError;
 use value_ops::{Name, Place};
 
-impl Resolver {
+impl Resolver<'_> {
     /// Resolves a phrase.
     #[cycle(phrases)]
     pub fn phrase(
@@ -369,7 +369,7 @@ impl Resolver {
                 self.bounds(frame, around, bounds)
             }
             Decl::Proc(procedure) => self.procedure(frame, path, procedure),
-            Decl::Class(class) => self.groups(path, &class.groups),
+            Decl::Class(class) => self.class(path, class),
         }
     }
 

@@ -1,15 +1,17 @@
 ghost use Rattle.std.specs.Prelude.{◌≡◌, [], OnOk, IfOk, map};
 ghost use Rattle.std.specs.Option.{option_map};
-ghost use Rattle.algolw_tree.specs.View.{spec_tree, formal_tree};
-ghost use Rattle.algolw_typing.specs.Naming.{declares, inside, use_at, uses_of, spec_uses, result_uses, formal_uses, group_uses};
+ghost use Rattle.algolw_tree.specs.View.{spec_tree, formal_tree, class_tree};
+ghost use Rattle.algolw_typing.specs.Naming.{declares, inside, use_at, uses_of, spec_uses, result_uses, formal_uses, group_uses, class_naming};
 ghost use Rattle.block_scopes.specs.Adding.{Adds, frame_view};
 ghost use Rattle.block_scopes.specs.Declaring.{declaring};
 ghost use Rattle.block_scopes.specs.Paths.{path_view};
 
+use crate::classes::{FoundClass, class_fields};
 use crate::frame::Frame;
 use crate::path::ScopePath;
 use crate::scope::Scope;
-use algolw_tree::{Formal, NameInfo, Names, TypeSpec};
+use algolw_tree::{ClassDecl, Formal, NameInfo, Names, TypeSpec};
+use bumpalo::Bump;
 use std::alloc::{AllocError, Global};
 use value_ops::{Diagnostic, Name, Place};
 
@@ -24,28 +26,35 @@ pub struct FoundUse {
 
 /// What was found of a program so far.
 #[derive(Drop)]
-pub struct Resolver {
+pub struct Resolver<'a> {
     /// Where scopes are made.
     pub alloc: Global,
+    /// Where the types of fields are made.
+    pub arena: &'a Bump,
     /// What is declared.
     pub names: Vec<NameInfo>,
     /// What is used.
     pub uses: Vec<FoundUse>,
+    /// The record classes.
+    pub classes: Vec<FoundClass<'a>>,
     /// The diagnostics 30 and 31.
     pub faults: Vec<Diagnostic>,
 }
 
-impl Resolver {
+impl<'a> Resolver<'a> {
     /// Nothing was found yet.
-    pub fn new(alloc: Global) -> Resolver
+    pub fn new(alloc: Global, arena: &'a Bump) -> Resolver<'a>
         ensures names { result.names.items ≡ [] }
         ensures uses { result.uses.items ≡ [] }
+        ensures classes { result.classes.items ≡ [] }
         ensures faults { result.faults.items ≡ [] }
     {
         Resolver {
             alloc,
+            arena,
             names: Vec::new(alloc),
             uses: Vec::new(alloc),
+            classes: Vec::new(alloc),
             faults: Vec::new(alloc),
         }
     }
@@ -143,16 +152,27 @@ impl Resolver {
     }
 
     /// Notes the classes of the types of fields.
-    pub fn groups(
-        &mut self,
-        path: &ScopePath,
-        groups: &[(TypeSpec, Names)],
-    ) -> Result<(), AllocError>
+    fn groups(&mut self, path: &ScopePath, groups: &[(TypeSpec, Names)]) -> Result<(), AllocError>
         ensures { OnOk result (Adds self.old self.new (group_uses (path_view path.now) (map (λ g. (spec_tree g.0, g.1.items)) groups.now))) }
     {
         for group in groups {
             self.spec(path, &group.0)?;
         }
+        Ok(())
+    }
+
+    /// Notes a record class, and the classes of the types of its fields.
+    pub fn class(&mut self, path: &ScopePath, class: &ClassDecl) -> Result<(), AllocError>
+        ensures { OnOk result (Adds self.old self.new (class_naming (path_view path.now) (class_tree class.now))) }
+    {
+        self.groups(path, &class.groups)?;
+        let fields = class_fields(self.alloc, self.arena, path, &class.groups)?;
+        let (name, place) = class.name;
+        self.classes.push(FoundClass {
+            place,
+            name,
+            fields,
+        })?;
         Ok(())
     }
 }

@@ -1,7 +1,9 @@
 use crate::resolve;
-use algolw_tree::{Decl, Formal, Item, Kind, Mode, Phrase, ProcDecl, TypeSpec};
+use algolw_tree::{ClassDecl, Decl, Formal, Item, Kind, Mode, Names, Phrase, ProcDecl, TypeSpec};
+use bumpalo::Bump;
 use std::alloc::{AllocError, Global};
 use std::test::Fail;
+use typing_rules::{ClassSet, ValueType};
 use value_ops::{Diagnostic, Name, Place};
 
 /// A place on card 1.
@@ -73,7 +75,8 @@ fn program(alloc: Global) -> Result<Phrase, AllocError> {
 #[test]
 fn resolves_names(rt: HostRuntime) -> Result<(), Fail> {
     let program = program(rt.alloc())?;
-    let scopes = resolve(rt.alloc(), &program)?;
+    let arena = Bump::new(rt.alloc());
+    let scopes = resolve(rt.alloc(), &arena, &program)?;
     let mut frames = Vec::new(rt.alloc());
     for info in &scopes.names {
         if info.place.card > 0 {
@@ -116,5 +119,66 @@ fn resolves_names(rt: HostRuntime) -> Result<(), Fail> {
         },
     ];
     assert_eq!(rt; scopes.faults.as_slice(), wrong.as_slice());
+    Ok(())
+}
+
+/// Names in a row from a column on.
+fn names(alloc: Global, first: u8, row: &[u8]) -> Result<Names, AllocError> {
+    let mut names = Vec::new(alloc);
+    let mut column = first;
+    for letter in row {
+        names.push((Name::from_slice(&[*letter]), at(column)))?;
+        column = column.saturating_add(1);
+    }
+    Ok(names)
+}
+
+/// `BEGIN RECORD C (INTEGER N, M; REFERENCE(D, C, X) R); RECORD D (STRING(4) S) END`
+fn classes(alloc: Global) -> Result<Phrase, AllocError> {
+    let mut groups = Vec::new(alloc);
+    groups.push((TypeSpec::Integer, names(alloc, 15, b"NM")?))?;
+    let reference = TypeSpec::Reference(names(alloc, 20, b"DCX")?);
+    groups.push((reference, names(alloc, 25, b"R")?))?;
+    let mut decls = Vec::new(alloc);
+    decls.push(Decl::Class(ClassDecl {
+        name: (Name::from_slice(b"C"), at(10)),
+        groups,
+    }))?;
+    let mut groups = Vec::new(alloc);
+    let text = TypeSpec::Str(Some((4, at(35))));
+    groups.push((text, names(alloc, 40, b"S")?))?;
+    decls.push(Decl::Class(ClassDecl {
+        name: (Name::from_slice(b"D"), at(30)),
+        groups,
+    }))?;
+    Ok(phrase(1, Kind::Block(decls, Vec::new(alloc))))
+}
+
+/// Whether a type is a reference to the classes at these places.
+fn refers_to(given: ValueType<'_>, classes: ClassSet<'_>) -> bool {
+    match given {
+        ValueType::Reference(set) => set.is_same_set(classes),
+        _ => false,
+    }
+}
+
+#[test]
+fn finds_record_classes(rt: HostRuntime) -> Result<(), Fail> {
+    let program = classes(rt.alloc())?;
+    let arena = Bump::new(rt.alloc());
+    let scopes = resolve(rt.alloc(), &arena, &program)?;
+    assert_eq!(rt; scopes.classes.len(), 2);
+    let c = &scopes.classes[0];
+    assert!(rt; c.place == at(10) && c.name == Name::from_slice(b"C"));
+    assert_eq!(rt; c.fields.len(), 3);
+    assert!(rt; matches!(c.fields[1].field_type, ValueType::Integer));
+    assert!(rt; c.fields[2].name == Name::from_slice(b"R"));
+    let mut both = Vec::new(&arena);
+    both.push(at(10))?;
+    both.push(at(30))?;
+    assert!(rt; refers_to(c.fields[2].field_type, ClassSet::new(both)));
+    let d = &scopes.classes[1];
+    assert!(rt; d.place == at(30) && d.fields.len() == 1);
+    assert!(rt; matches!(d.fields[0].field_type, ValueType::Str(4)));
     Ok(())
 }

@@ -1,4 +1,3 @@
 pub mod Again
-pub mod ClassSets
 pub mod Knowing
 pub mod Placing

@@ -5,7 +5,7 @@ ghost use Rattle.algolw_typing.specs.Scopes as rules;
 ghost use Rattle.algolw_typing.specs.Names.{declared};
 ghost use Rattle.algolw_typing.specs.Typing.{declare_at, typed_formals, typed_groups};
 ghost use Rattle.algolw_typing.specs.Verdicts.{diagnostic};
-ghost use Rattle.typing_rules.specs.View.{value_type};
+ghost use Rattle.typing_rules.specs.View.{classes_of, value_type};
 ghost use Rattle.typing_rules.specs.MeaningView as view;
 ghost use Rattle.type_checker.specs.DraftView.{formal_view, placed_view};
 ghost use Rattle.type_checker.specs.KnownPaths.{path_view};
@@ -15,9 +15,8 @@ use crate::drafts::{DraftFormal, Places};
 use crate::known::{Known, KnownPath, KnownScope};
 use algolw_tree::{ClassDecl, Formal, Mode, Names, TypeSpec};
 use bumpalo::Bump;
-use bumpalo::collections::into_bump_slice;
 use std::alloc::{AllocError, Global};
-use typing_rules::{FormalType, Meaning, Reading, ValueType, add_class};
+use typing_rules::{ClassSet, FormalType, Meaning, Reading, ValueType};
 use value_ops::{Diagnostic, Name, Place};
 
 /// Adds a fault.
@@ -84,33 +83,21 @@ pub(crate) fn spec_faults(
     }
 }
 
-/// Puts the class that a name means here, where it means one, into a set.
-fn add_declared(
-    path: &KnownPath,
-    class: &(Name, Place),
-    classes: &mut Vec<Place, &Bump>,
-) -> Result<(), AllocError>
-    ensures { OnOk result (classes.new.items ≡ rules.with_declared (declared (path_view path.now) class.now.0) classes.old.items) }
-{
-    match path.declared(&class.0) {
-        None => Ok(()),
-        Some(known) => add_class(classes, known.place),
-    }
-}
-
 /// The set of the classes that names mean here, in the arena.
 fn class_set<'a>(
     arena: &'a Bump,
     path: &KnownPath,
     names: &Names,
-) -> Result<&'a [Place], AllocError>
-    ensures { IfOk result (λ set. set.now ≡ rules.class_set (path_view path.now) names.now.items) }
+) -> Result<ClassSet<'a>, AllocError>
+    ensures { IfOk result (λ set. classes_of set ≡ rules.class_set (path_view path.now) names.now.items) }
 {
     let mut classes = Vec::with_capacity(arena, names.len())?;
-    for class in names.iter().rev() {
-        add_declared(path, class, &mut classes)?;
+    for (name, _) in names {
+        if let Some(known) = path.declared(name) {
+            classes.push(known.place)?;
+        }
     }
-    Ok(into_bump_slice(classes))
+    Ok(ClassSet::new(classes))
 }
 
 /// The type that is written.

@@ -1,5 +1,5 @@
 -- How the values among parts join, at the part where a loop stands.
-use Rattle.std.proofs.Common.{◌≡◌, ℕ, ◌+◌, ◌<◌, List, [], ◌∷◌, length, get_or, drop, ap, ◌∙◌, refl, Option, Some, None}
+use Rattle.std.proofs.Common.{◌≡◌, ℕ, ◌+◌, ◌<◌, List, [], ◌∷◌, length, get_or, drop, sym, ap, ◌∙◌, refl, Option, Some, None}
 use Rattle.std.proofs.lemmas.List.{at_drop_more}
 use Rattle.algolw_typing.specs.Types as types
 use Rattle.typing_rules.specs.Parts.{join_next, values_of}
@@ -8,8 +8,8 @@ use Rattle.typing_rules.specs.declared.types.ValueType.{ValueType}
 use Rattle.typing_rules.specs.declared.types.PhraseType.{PhraseType}
 use Rattle.typing_rules.specs.declared.types.PhraseType.TheVariants as phrase
 
-pub values_of-value : (parts : List PhraseType) (i : ℕ) (t : ValueType) → i < length parts → get_or parts i phrase.Statement ≡ phrase.Value t → values_of (drop i parts) ≡ value_type t ∷ values_of (drop (i + 1) parts)
-values_of-value parts i t within is = at_drop_more values_of parts i phrase.Statement within ∙ ap (λ p. values_of (p ∷ drop (i + 1) parts)) is
+pub values_of-value : (parts : List PhraseType) (i : ℕ) (p : PhraseType) (t : ValueType) → i < length parts → p ≡ get_or parts i p → p ≡ phrase.Value t → values_of (drop i parts) ≡ value_type t ∷ values_of (drop (i + 1) parts)
+values_of-value parts i p t within at is = at_drop_more values_of parts i p within ∙ ap (λ q. values_of (q ∷ drop (i + 1) parts)) (sym at ∙ is)
 
 -- what values join to with those before them
 abbrev pub join_more : Option types.ValueType → List types.ValueType → Option types.ValueType

@@ -2,3 +2,5 @@ pub mod Rests
 pub mod EachPart
 pub mod Joins
 pub mod Sets
+pub mod Unions
+pub mod NamedClasses

@@ -1,10 +1,9 @@
 -- What rows with a rest of their own for a list of types say, once the types are known.
 use Rattle.std.proofs.Common.{◌≡◌, List, [], ◌∷◌, true, false, refl, ℕ, length, map, arith, ◌⊎◌, inl, inr}
-use Rattle.std.specs.List.{list_any}
 use Rattle.algolw_typing.specs.Actuals.{actuals_fit}
 use Rattle.std.proofs.lemmas.List.{length-map}
 use Rattle.value_ops.specs.declared.places.Place.{Place}
-use Rattle.algolw_typing.specs.Types.{ValueType, Integer, Logical, Bits, Str, Reference, Statement, Simple, has, is_place}
+use Rattle.algolw_typing.specs.Types.{ValueType, Integer, Logical, Bits, Str, Reference, Statement, Simple}
 use Rattle.algolw_typing.specs.Verdicts.{Verdict, Good, Fault, Silent, value, unless}
 use Rattle.algolw_typing.specs.Meanings.{FormalType, Part, a_star, a_phrase, as_array, as_procedure, with_formals, not_read, typeless, of_phrase, right_number, field_values, values_read, variables_read, field_of}
 use Rattle.typing_rules.specs.MeaningView.{values_of, refers_to}
@@ -70,8 +69,3 @@ fields_at_end f g p [] ys row e = refl
 fields_at_end f g p (x ∷ xs) [] row e = refl
 fields_at_end f g p (x ∷ xs) (y ∷ ys) row (inl e) = cc
 fields_at_end f g p (x ∷ xs) (y ∷ ys) row (inr e) = cc
-
--- whether one of the classes is this one
-pub any_has : (set : List Place) (c : Place) → list_any (λ d. is_place d c) set ≡ has set c
-any_has [] c = refl
-any_has (d ∷ set) c = rw (any_has set c)

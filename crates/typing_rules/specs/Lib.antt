@@ -1,3 +1,4 @@
+pub mod ClassSets
 pub mod View
 pub mod MeaningView
 pub mod Parts

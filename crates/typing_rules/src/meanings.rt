@@ -8,6 +8,7 @@ ghost use Rattle.algolw_typing.specs.Verdicts as verdicts;
 ghost use Rattle.typing_rules.specs.View.{value_type, phrase_type, verdict};
 ghost use Rattle.typing_rules.specs.MeaningView as view;
 
+use crate::class_set::ClassSet;
 use crate::conditions::{fault, integer, unless, value};
 use crate::types::{PhraseType, ValueType};
 use crate::verdicts::{NoType, Verdict};
@@ -129,8 +130,7 @@ pub fn gives_of<'a>(result_type: Option<ValueType<'a>>) -> PhraseType<'a>
 fn reference_to<'a>(arena: &'a Bump, declared: Place) -> Result<PhraseType<'a>, AllocError>
     ensures { IfOk result (λ g. phrase_type g ≡ types.Simple (types.Reference (declared ∷ []))) }
 {
-    let classes: &'a [Place] = arena.try_alloc_slice_copy(&[declared])?;
-    Ok(PhraseType::Value(ValueType::Reference(classes)))
+    Ok(PhraseType::Value(ValueType::Reference(ClassSet::one(arena, declared)?)))
 }
 
 /// A name without list, and no actual. Its declaration is at the place `declared`.
@@ -318,7 +318,7 @@ fn refers_to(given: ValueType<'_>, class: Place) -> bool
     ensures { result ≡ view.refers_to (value_type given.entry) class }
 {
     match given {
-        ValueType::Reference(classes) => classes.contains(&class),
+        ValueType::Reference(classes) => classes.has(class),
         _ => false,
     }
 }

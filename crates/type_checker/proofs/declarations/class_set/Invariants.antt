@@ -1,9 +1,8 @@
-use Rattle.std.proofs.Common.{◌≡◌, length, drop, reverse}
-use Rattle.algolw_typing.specs.Scopes as rules
+use Rattle.std.proofs.Common.{◌≡◌, ◌++◌, drop}
+use Rattle.typing_rules.proofs.NamedClasses.{declared_classes}
 use Rattle.type_checker.specs.KnownPaths.{path_view}
-use Rattle.type_checker.proofs.ClassSets.{with_each}
 use Rattle.type_checker.proofs.declarations.class_set.Given as goal
 
--- what is left to be put into the set makes it whole
-abbrev pub invariant-loop-class : goal.invariant-loop-class
-invariant-loop-class l = with_each (path_view l.path) (drop (length l.yielded) (reverse l.names.items)) l.classes.items ≡ rules.class_set (path_view l.path) l.names.items
+-- what is found and what is left are all
+abbrev pub invariant-loop-name : goal.invariant-loop-name
+invariant-loop-name l = l.classes.items ++ declared_classes (path_view l.path) (drop l.name-index l.names.items) ≡ declared_classes (path_view l.path) l.names.items

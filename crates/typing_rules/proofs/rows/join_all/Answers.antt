@@ -9,7 +9,7 @@ pub returns-in_default-2 : goal.returns-in_default-2
 returns-in_default-2 c =
     let parts = c.args.parts.now in
     let before = option_map value_type c.loop-part.joined in
-    let here = values_of-value parts c.loop-part.part-index c.in-Value.next c.loop-part-test.true c.in-Value.is in
+    let here = values_of-value parts c.loop-part.part-index c.part-item.result c.in-Value.next c.loop-part-test.true c.part-item.is c.in-Value.is in
     let none = sym c.in_ok-both.ensures ∙ ap (option_map value_type) c.in_default-2.is in
     let stops = join_more-stops before (value_type c.in-Value.next) (values_of (drop (c.loop-part.part-index + 1) parts)) none in
     sym stops ∙ sym (ap (join_more before) here) ∙ c.loop-part.invariant
