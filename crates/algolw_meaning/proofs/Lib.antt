@@ -1,2 +1,3 @@
 pub mod Within
 pub mod Faults
+pub mod Found

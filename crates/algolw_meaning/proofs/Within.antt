@@ -1,22 +1,39 @@
 -- The result of a job costs at most the job's reserve.
-use Rattle.std.proofs.Common.{◌≡◌, ℕ, ◌≤◌, Bool, true, false, cond, nat_le, Option, Some, None, refl, arith}
+use Rattle.std.proofs.Common.{◌≡◌, ℕ, ◌≤◌, Bool, true, false, cond, nat_le, List, [], ◌∷◌, Option, Some, None, refl, arith}
 use Rattle.std.proofs.lemmas.Bool.Decides.{nat_tests}
 use Rattle.deck_reader.specs.JobView.{JobView}
 use Rattle.account_book.specs.Charges.{charge, reserve}
 use Rattle.value_ops.specs.declared.places.Diagnostic.{Diagnostic}
-use Rattle.algolw_meaning.specs.DeckFaults.{deck_fault}
 use Rattle.algolw_meaning.specs.Sums.{sum_of_deck}
-use Rattle.algolw_meaning.specs.Meaning.{job_result, result_by}
+use Rattle.algolw_typing.specs.Programs.{program_of}
+use Rattle.program_meaning.specs.Laws.{KeepsItsLimits}
+use Rattle.program_meaning.specs.Translating.{program_phrase}
+use Rattle.program_meaning.proofs.Runs.{runs_keep_their_limits}
+use Rattle.algolw_meaning.specs.DeckDiagnostics.{Deck, IsProgram, IsWrong, NothingFound, deck_of}
+use Rattle.algolw_meaning.specs.Laws.{Within}
+use Rattle.algolw_meaning.specs.Meaning.{narrow_result, result_by, shown_diagnostics}
+use Rattle.algolw_meaning.specs.Running.{job_result, result_of_deck, setting_of}
 
--- the result of a job for this fault and this sum, where it has one only if it may take two steps
-within_by : (fault : Option Diagnostic) (enough : Bool) (sum : Option ℕ) (job : JobView) → (enough ≡ true → 2 ≤ job.steps) → 1 ≤ job.lines
-    → (job.cards ≤ charge (result_by fault (cond enough sum None) job).counts) × (charge (result_by fault (cond enough sum None) job).counts ≤ reserve job)
-within_by (Some d) enough sum job steps lines = (omega arith, omega arith)
-within_by None false sum job steps lines = (omega arith, omega arith)
-within_by None true None job steps lines = (omega arith, omega arith)
-within_by None true (Some sum) job steps lines =
+-- the result of a job for these diagnostics and this sum, where it has one only if it may take two steps
+within_by : (faults : List Diagnostic) (enough : Bool) (sum : Option ℕ) (job : JobView) → (enough ≡ true → 2 ≤ job.steps) → 1 ≤ job.lines
+    → (job.cards ≤ charge (result_by faults (cond enough sum None) job).counts) × (charge (result_by faults (cond enough sum None) job).counts ≤ reserve job)
+within_by (d ∷ faults) enough sum job steps lines = (omega arith, omega arith)
+within_by [] false sum job steps lines = (omega arith, omega arith)
+within_by [] true None job steps lines = (omega arith, omega arith)
+within_by [] true (Some sum) job steps lines =
     let two : 2 ≤ job.steps = steps refl in
     (omega arith, omega (arith, two, lines))
 
-pub result_within : (job : JobView) → 1 ≤ job.lines → (job.cards ≤ charge (job_result job).counts) × (charge (job_result job).counts ≤ reserve job)
-result_within job lines = within_by (deck_fault job.deck) (nat_le 2 job.steps) (sum_of_deck job.deck) job (λ e. grind (arith, nat_tests)) lines
+pub narrow_within : (job : JobView) → 1 ≤ job.lines → Within job (narrow_result job)
+narrow_within job lines = within_by (shown_diagnostics job.deck) (nat_le 2 job.steps) (sum_of_deck job.deck) job (λ e. grind (arith, nat_tests)) lines
+
+deck_within : (faults : List Diagnostic) (deck : Deck) (job : JobView) → Within job (result_of_deck faults deck job)
+deck_within (d ∷ faults) deck job = (omega arith, omega arith)
+deck_within [] (IsProgram x) job =
+    let keeps : KeepsItsLimits (setting_of job) (program_phrase (program_of x)) = runs_keep_their_limits (setting_of job) (program_phrase (program_of x)) in
+    (omega arith, omega (arith, keeps.steps, keeps.lines))
+deck_within [] (IsWrong d) job = (omega arith, omega arith)
+deck_within [] NothingFound job = (omega arith, omega arith)
+
+pub job_within : (job : JobView) → Within job (job_result job)
+job_within job = deck_within (shown_diagnostics job.deck) (deck_of job.deck) job

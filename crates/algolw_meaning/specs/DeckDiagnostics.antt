@@ -1,12 +1,16 @@
 -- What a deck is: a program, or wrong in its tokens or its form; and all diagnostics of a deck.
-use Rattle.std.specs.Prelude.{List, [], ◌∷◌, ℕ, Option, Some, None}
+use Rattle.std.specs.Prelude.{◌≡◌, ◌⊎◌, List, [], ◌∷◌, ℕ, Option, Some, None}
 use Rattle.value_ops.specs.declared.places.Diagnostic.{Diagnostic}
+use Rattle.algolw_tree.specs.declared.tokens.Token.{Token}
+use Rattle.algolw_tree.specs.Tokens.{AreTokens}
 use Rattle.algolw_tree.specs.Tree.{Phrase}
-use Rattle.algolw_tree.specs.Programs.{Answer, Program}
+use Rattle.algolw_tree.specs.Programs.{Answer, Program, IsAnswer}
 use Rattle.algolw_scanner.specs.Decks.{Reading, AllTokens, FirstFault, scanned}
+use Rattle.algolw_scanner.specs.Laws.{IsDeck}
 use Rattle.algolw_grammar.specs.Reading.{read_names, read_type, read_group, read_class, read_passing, read_formal_end, read_formal, read_formals, read_perhaps, read_bound, read_procedure, read_decl_end, read_decl, read_item, read_block, read_actual, read_list, read_listing, read_literal, read_prim, read_or, read_and, read_adding, read_multiplying, read_shifting, read_shift, read_term, read_signed, read_sum, read_relop, read_relation_end, read_rel, read_neg, read_conj, read_disj, read_assign_end, read_assignment, read_if, read_case_end, read_case, read_for_end, read_for, read_while, read_goto, read_assert, read_phrase, read_negation, read_absolute, readers, read_program_by}
 use Rattle.algolw_grammar.specs.Parsing.{parsed, diagnostic_of}
 use Rattle.algolw_typing.specs.Faults.{program_faults}
+use Rattle.algolw_meaning.specs.DeckFaults.{HasFault}
 
 -- what is found of a deck
 pub data Deck : Type 0 where
@@ -41,3 +45,10 @@ diagnostics_found NothingFound = []
 unfoldable pub deck_diagnostics : List (List ℕ) → List Diagnostic
 unfolding deck_of
 deck_diagnostics cards = diagnostics_found (deck_of cards)
+
+-- These are the diagnostic of the deck's tokens or form, alone; or those of the names and types of the program that it spells.
+abbrev pub HasDiagnostics : List (List ℕ) → List Diagnostic → Type 0
+HasDiagnostics deck found = ((d : Diagnostic) × HasFault deck (Some d) × (found ≡ d ∷ [])) ⊎ ((tokens : List Token) × (x : Phrase) × AreTokens deck tokens × IsAnswer tokens (Program x) × (found ≡ program_faults x))
+
+abbrev pub DiagnosticsOfDecks : Type 0
+DiagnosticsOfDecks = (deck : List (List ℕ)) → IsDeck deck → HasDiagnostics deck (deck_diagnostics deck)

@@ -5,5 +5,11 @@ pub mod DeckDiagnostics
 pub mod TypingDecks
 pub mod ProgramDecks
 pub mod Meaning
+pub mod Running
 pub mod EndedView
 pub mod Laws
+pub mod RunRows
+pub mod RunningDecks
+pub mod CallingDecks
+pub mod ManualDecks
+pub mod SectionDecks

@@ -591,6 +591,66 @@ decks_of_the_manual_decks = (
     )
     ∷ []
 
+-- a deck for each number
+abbrev pub a_deck_for_each_number_decks : List Row
+a_deck_for_each_number_decks = (
+  codes "BEGIN INTEGER TOTAL;" ∷ codes "TOTAL := 0; TOTL := 1 END." ∷ [],
+  d 30 2 13 ∷ [],
+)
+    ∷ (
+      codes "BEGIN INTEGER N; LOGICAL N;" ∷ codes "N := 1 END." ∷ [],
+      d 31 1 26 ∷ [],
+    )
+    ∷ (
+      codes "BEGIN STRING(300) S;" ∷ codes "S := \"A\" END." ∷ [],
+      d 32 1 14 ∷ [],
+    )
+    ∷ (
+      codes "BEGIN INTEGER NODE;" ∷ codes "REFERENCE(NODE) R; R := NULL END." ∷ [],
+      d 33 2 11 ∷ [],
+    )
+    ∷ (
+      codes "BEGIN INTEGER N; N := 7;" ∷ codes "WRITE(N / 2) END." ∷ [],
+      d 34 2 9 ∷ [],
+    )
+    ∷ (
+      codes "BEGIN PROCEDURE P; ;" ∷ codes "WRITE(P) END." ∷ [],
+      d 35 2 1 ∷ [],
+    )
+    ∷ (
+      codes "BEGIN INTEGER N;" ∷ codes "N := 1; N + 1; WRITE(N) END." ∷ [],
+      d 36 2 9 ∷ [],
+    )
+    ∷ (
+      codes "BEGIN INTEGER N;" ∷ codes "N := \"SEVEN\" END." ∷ [],
+      d 37 2 3 ∷ [],
+    )
+    ∷ (
+      codes "BEGIN INTEGER N;" ∷ codes "READ(N + 1) END." ∷ [],
+      d 38 2 1 ∷ [],
+    )
+    ∷ (
+      codes "BEGIN INTEGER ARRAY A (1::2, 1::2);" ∷ codes "A(1) := 7 END." ∷ [],
+      d 39 2 1 ∷ [],
+    )
+    ∷ (
+      codes "BEGIN PROCEDURE P (INTEGER ARRAY R (*)); R(1) := 0;" ∷ codes "P(7) END." ∷ [],
+      d 40 2 1 ∷ [],
+    )
+    ∷ (
+      codes "BEGIN INTEGER ARRAY A (1::2);" ∷ codes "WRITE(A) END." ∷ [],
+      d 41 2 7 ∷ [],
+    )
+    ∷ (
+      codes "BEGIN INTEGER NEXT;" ∷ codes "GOTO NEXT END." ∷ [],
+      d 42 2 6 ∷ [],
+    )
+    ∷ (
+      codes "BEGIN FOR I := 1 UNTIL 9 DO" ∷ codes "I := I + 1 END." ∷ [],
+      d 43 2 3 ∷ [],
+    )
+    ∷ []
+
 -- the order of faults
 abbrev pub the_order_of_faults_decks : List Row
 the_order_of_faults_decks = (
@@ -646,4 +706,5 @@ pub record DecksHaveTheirFaults : Type 0 where
   pub scopes : AllHave scopes_decks
   pub declarations_with_faults : AllHave declarations_with_faults_decks
   pub decks_of_the_manual : AllHave decks_of_the_manual_decks
+  pub a_deck_for_each_number : AllHave a_deck_for_each_number_decks
   pub the_order_of_faults : AllHave the_order_of_faults_decks

@@ -1,6 +1,11 @@
+ghost use Rattle.algolw_meaning.specs.CallingDecks.{CallingDecksGive};
+ghost use Rattle.algolw_meaning.specs.DeckDiagnostics.{DiagnosticsOfDecks};
 ghost use Rattle.algolw_meaning.specs.DeckFaults.{DeckFaults};
 ghost use Rattle.algolw_meaning.specs.Laws.{ResultWithin};
+ghost use Rattle.algolw_meaning.specs.ManualDecks.{ManualDecksGive};
 ghost use Rattle.algolw_meaning.specs.ProgramDecks.{DecksHaveTheirParts};
+ghost use Rattle.algolw_meaning.specs.RunningDecks.{DecksGive};
+ghost use Rattle.algolw_meaning.specs.SectionDecks.{SectionsGive};
 ghost use Rattle.algolw_meaning.specs.TypingDecks.{DecksHaveTheirFaults};
 
 /// A job is charged at least its cards and at most its reserve.
@@ -13,6 +18,11 @@ pub fn faults_of_decks()
     ensures { DeckFaults }
 {}
 
+/// The diagnostics of a deck are that of its tokens or form, alone, or those of the names and types of its program.
+pub fn diagnostics_of_decks()
+    ensures { DiagnosticsOfDecks }
+{}
+
 /// Each deck of a table has exactly the diagnostics of its names and types that stand beside it.
 pub fn decks_have_their_faults()
     ensures { DecksHaveTheirFaults }
@@ -21,4 +31,25 @@ pub fn decks_have_their_faults()
 /// Each deck of a table is a program with exactly the names, record classes and statements that stand beside it.
 pub fn decks_have_their_parts()
     ensures { DecksHaveTheirParts }
+{}
+
+/// Each deck of a table of statements, values and data, run, gives exactly the ending, the steps, the lines and the dump
+/// that stand beside it.
+pub fn decks_give()
+    ensures { DecksGive }
+{}
+
+/// So does each deck of a table of procedures, their formals, limits and dumps.
+pub fn calling_decks_give()
+    ensures { CallingDecksGive }
+{}
+
+/// Each deck of the manual's chapter on what a program does, run, gives exactly what the manual shows.
+pub fn manual_decks_give()
+    ensures { ManualDecksGive }
+{}
+
+/// Each of a few jobs, with every kind of ending, has the section that stands beside it.
+pub fn sections_give()
+    ensures { SectionsGive }
 {}

@@ -1,5 +1,5 @@
 pub mod Turns
-pub mod Rows
+pub mod Chains
 pub mod Shrink
 pub mod Ranks
 pub mod Labels

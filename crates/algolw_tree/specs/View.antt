@@ -1,6 +1,8 @@
 -- The tree that a phrase in memory is.
-use Rattle.std.specs.Prelude.{map}
+use Rattle.std.specs.Prelude.{Option, Some, None, map}
 use Rattle.std.specs.Option.{option_map}
+use Rattle.std.specs.declared.boxed.Box.{Box}
+use Rattle.std.specs.declared.alloc.Global.{Global}
 use Rattle.algolw_tree.specs.declared.phrases.Phrase.{Phrase}
 use Rattle.algolw_tree.specs.declared.phrases.Kind.{Kind, Empty, Null, Number, Truth, BitsLit, Quoted, Goto, Named', Negated', Abs', Signed', Chain', Relation', IsClass', Assign', IfThen', CaseValue', CaseDo', ForStep', ForList', WhileDo', Assert', Block', Row_of-Link, end_of-Link, more_of-Link, Row_of-List, end_of-List, more_of-List, Row_of-Phrase, end_of-Phrase, more_of-Phrase, Held-Kind-IfThen-2, Some', None', Row_of-Item, end_of-Item, more_of-Item, Row_of-Decl, end_of-Decl, more_of-Decl}
 use Rattle.algolw_tree.specs.declared.phrases.Actual.{Actual, Star, Phrase'}
@@ -121,3 +123,8 @@ item_tree i = Tree.Labelled i.labels.items (tree i.phrase)
 
 abbrev pub bound_tree : Bound → Tree.Bound
 bound_tree b = Tree.Between b.place (tree b.lower) (tree b.upper)
+
+-- a phrase that may be missing
+abbrev pub optional_tree : Option (Box Phrase Global) → Tree.Perhaps
+optional_tree None = Tree.Missing
+optional_tree (Some a) = Tree.There (tree a.value)

@@ -17,4 +17,4 @@ mod KnownOuts
 mod KnownParts
 mod KnownDecls
 mod KnownTrees
-mod KnownPrograms
+pub mod KnownPrograms

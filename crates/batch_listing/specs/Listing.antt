@@ -7,7 +7,7 @@ use Rattle.deck_reader.specs.declared.batch.Flaw.{Flaw}
 use Rattle.deck_reader.specs.JobView.{JobView}
 use Rattle.deck_reader.specs.Batch.{batch}
 use Rattle.account_book.specs.Charges.{charge, reserve}
-use Rattle.algolw_meaning.specs.Meaning.{job_result}
+use Rattle.algolw_meaning.specs.Meaning.{narrow_result}
 use Rattle.batch_listing.specs.declared.decision.Decision.{Decision}
 use Rattle.batch_listing.specs.declared.decision.Decision.TheVariants.{Flawed, Refused, Accepted}
 use Rattle.account_book.specs.BookView.{openings_of}
@@ -26,7 +26,7 @@ decision balance job = decision_by job.flaw job.account (reserve job) balance
 abbrev pub body : Decision → JobView → List ℕ
 body (Flawed flaw) job = flawed_line flaw
 body (Refused reserve balance) job = refused_line reserve balance
-body (Accepted account) job = (job_result job).body
+body (Accepted account) job = (narrow_result job).body
 
 -- the section of a job where these are the balances
 abbrev pub section_with : (ℕ → ℕ) → JobView → List ℕ
@@ -34,7 +34,7 @@ section_with balance job = title job ++ body (decision balance job) job
 
 -- a job's claim, and its charge where it is accepted
 abbrev pub charged : JobView → Claim × ℕ
-charged job = (claim_of job, charge (job_result job).counts)
+charged job = (claim_of job, charge (narrow_result job).counts)
 
 -- whether a job is accepted at its place, behind these jobs
 abbrev pub accepted : List ℕ → List JobView → JobView → Bool

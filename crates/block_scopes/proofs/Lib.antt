@@ -5,7 +5,5 @@ pub mod Declared
 pub mod Firsts
 pub mod NameNumbers
 pub mod PlaceOrder
-pub mod Rows
-pub mod Sizes
 pub mod StableSorts
 pub mod Standards

@@ -1,17 +1,8 @@
 -- What parts of phrases add.
-use Rattle.std.specs.Prelude.{List, ◌∷◌, Option, Some, None}
-use Rattle.std.specs.declared.boxed.Box.{Box}
-use Rattle.std.specs.declared.alloc.Global.{Global}
-use Rattle.algolw_tree.specs.declared.phrases.Phrase.{Phrase}
+use Rattle.std.specs.Prelude.{List, ◌∷◌}
 use Rattle.algolw_tree.specs.Tree as Tree
 use Rattle.algolw_tree.specs.Tree.{Placed}
-use Rattle.algolw_tree.specs.View.{tree}
 use Rattle.algolw_typing.specs.Naming.{Naming, Frame, NamePath, nothing, and, scope_of, block_names, declares, inside, naming, actuals_naming, decls_naming, items_naming}
-
--- a phrase that may be missing
-abbrev pub perhaps_of : Option (Box Phrase Global) → Tree.Perhaps
-perhaps_of None = Tree.Missing
-perhaps_of (Some a) = Tree.There (tree a.value)
 
 abbrev pub listing_naming : Frame → NamePath → Tree.Listing → Naming
 listing_naming frame path (Tree.OfActuals q actuals) = actuals_naming frame path actuals

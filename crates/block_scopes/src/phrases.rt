@@ -1,10 +1,10 @@
 ghost use Rattle.std.specs.Prelude.{◌≡◌, OnOk, map};
 ghost use Rattle.algolw_tree.specs.Tree as T;
 ghost use Rattle.algolw_tree.specs.Grammar.{phrases_of, links_of, lists_of, actuals_of, items_of, decls_of, bounds_of};
-ghost use Rattle.algolw_tree.specs.View.{tree, link_tree, list_tree, actual_tree, item_tree, decl_tree, bound_tree, procedure_tree};
+ghost use Rattle.algolw_tree.specs.View.{tree, link_tree, list_tree, actual_tree, item_tree, decl_tree, bound_tree, optional_tree, procedure_tree};
 ghost use Rattle.algolw_typing.specs.Naming.{and, naming, phrases_naming, perhaps_naming, links_naming, lists_naming, actuals_naming, items_naming, bounds_naming, decls_naming, decl_naming, use_at, inside};
 ghost use Rattle.block_scopes.specs.Adding.{Adds, frame_view};
-ghost use Rattle.block_scopes.specs.Parts.{perhaps_of, listing_naming, actual_naming, block_naming, controlled_naming};
+ghost use Rattle.block_scopes.specs.Parts.{listing_naming, actual_naming, block_naming, controlled_naming};
 ghost use Rattle.block_scopes.specs.Paths.{path_view};
 
 use crate::blocks::{block_scope, control_scope, formal_scope};
@@ -141,7 +141,7 @@ impl Resolver<'_> {
         then: &Phrase,
         otherwise: &Option<Box<Phrase>>,
     ) -> Result<(), AllocError>
-        ensures { OnOk result (Adds self.old self.new (and (naming (frame_view frame) (path_view path.now) (tree condition.now)) (and (naming (frame_view frame) (path_view path.now) (tree then.now)) (perhaps_naming (frame_view frame) (path_view path.now) (perhaps_of otherwise.now))))) }
+        ensures { OnOk result (Adds self.old self.new (and (naming (frame_view frame) (path_view path.now) (tree condition.now)) (and (naming (frame_view frame) (path_view path.now) (tree then.now)) (perhaps_naming (frame_view frame) (path_view path.now) (optional_tree otherwise.now))))) }
     {
         self.phrase(frame, path, condition)?;
         self.phrase(frame, path, then)?;
@@ -175,7 +175,7 @@ impl Resolver<'_> {
         step: &Option<Box<Phrase>>,
         limit: &Phrase,
     ) -> Result<(), AllocError>
-        ensures { OnOk result (Adds self.old self.new (and (naming (frame_view frame) (path_view path.now) (tree start.now)) (and (perhaps_naming (frame_view frame) (path_view path.now) (perhaps_of step.now)) (naming (frame_view frame) (path_view path.now) (tree limit.now))))) }
+        ensures { OnOk result (Adds self.old self.new (and (naming (frame_view frame) (path_view path.now) (tree start.now)) (and (perhaps_naming (frame_view frame) (path_view path.now) (optional_tree step.now)) (naming (frame_view frame) (path_view path.now) (tree limit.now))))) }
     {
         self.phrase(frame, path, start)?;
         self.perhaps(frame, path, step)?;
@@ -209,7 +209,7 @@ impl Resolver<'_> {
         path: &ScopePath,
         phrase: &Option<Box<Phrase>>,
     ) -> Result<(), AllocError>
-        ensures { OnOk result (Adds self.old self.new (perhaps_naming (frame_view frame) (path_view path.now) (perhaps_of phrase.now))) }
+        ensures { OnOk result (Adds self.old self.new (perhaps_naming (frame_view frame) (path_view path.now) (optional_tree phrase.now))) }
     {
         match phrase {
             Some(phrase) => self.phrase(frame, path, phrase),

@@ -1,3 +1,2 @@
 pub mod Terms
-pub mod Columns
 pub mod Appends

@@ -1,15 +1,18 @@
-ghost use Rattle.std.specs.Prelude.{◌≡◌, ◌≤◌, ◌<◌, ◌^◌, ◌∷◌, ◌++◌, [], IfOk, IfSome, MatchOption, None, Some, if◌then◌else◌, length};
+ghost use Rattle.std.specs.Prelude.{◌≡◌, ◌≤◌, ◌<◌, ◌^◌, ◌∷◌, ◌++◌, [], IfOk, IfSome, MatchOption, None, Some, if◌then◌else◌, length, take};
 ghost use Rattle.std.specs.Str.Parse.{digits_value};
 ghost use Rattle.deck_reader.specs.Forms.{is_digits};
+ghost use Rattle.algolw_tree.specs.View.{tree};
+ghost use Rattle.algolw_typing.specs.Faults.{program_faults};
 ghost use Rattle.algolw_scanner.specs.Laws.{IsDeck};
-ghost use Rattle.algolw_meaning.specs.DeckFaults.{deck_fault};
 ghost use Rattle.algolw_meaning.specs.Sums.{term, sum_of_text, sum_of_card, sum_of_deck};
-ghost use Rattle.algolw_meaning.specs.Meaning.{first_card, sum_of_job};
+ghost use Rattle.algolw_meaning.specs.Meaning.{first_card, shown_diagnostics, sum_of_job};
 
 use algolw_parser::{Parsed, parse};
 use algolw_scanner::{Scanned, scan};
+use algolw_tree::Phrase;
 use deck_reader::{Card, Job, split_once};
 use std::alloc::{AllocError, Global};
+use type_checker::{Checked, check};
 use value_ops::{Diagnostic, Place};
 
 /// The largest INTEGER.
@@ -27,18 +30,28 @@ pub const NOT_BY_NOW: Diagnostic = Diagnostic {
     place: Place { card: 1, column: 1 },
 };
 
-/// The fault of a deck's tokens, or else of its form, where it has one.
-#[tactic(auto, unfolding(algolw_meaning::specs::DeckFaults::deck_fault))]
-pub fn deck_fault(alloc: Global, deck: &[Card]) -> Result<Option<Diagnostic>, AllocError>
+/// The diagnostics of a deck that are shown: that of its tokens, or else of its form, or else the first twenty of its
+/// names and types.
+pub fn shown_diagnostics(alloc: Global, deck: &[Card]) -> Result<Vec<Diagnostic>, AllocError>
     requires { IsDeck deck.now }
-    ensures { IfOk result (λ fault. fault ≡ deck_fault deck.now) }
+    ensures { IfOk result (λ faults. faults.items ≡ shown_diagnostics deck.now) }
 {
     match scan(alloc, deck)? {
-        Scanned::Bad(fault) => Ok(Some(fault)),
+        Scanned::Bad(fault) => Ok(vec![in alloc; fault]?),
         Scanned::Tokens(tokens) => match parse(alloc, tokens.as_slice())? {
-            Parsed::Tree(_) => Ok(None),
-            Parsed::Bad(fault) => Ok(Some(fault)),
+            Parsed::Tree(phrase) => program_diagnostics(alloc, &phrase),
+            Parsed::Bad(fault) => Ok(vec![in alloc; fault]?),
         },
+    }
+}
+
+/// The first twenty diagnostics of the names and types of a program.
+fn program_diagnostics(alloc: Global, phrase: &Phrase) -> Result<Vec<Diagnostic>, AllocError>
+    ensures { IfOk result (λ faults. faults.items ≡ take 20 (program_faults (tree phrase.now))) }
+{
+    match check(alloc, phrase)? {
+        Checked::Bad(faults) => Ok(faults),
+        Checked::Good(_) => Ok(Vec::new(alloc)),
     }
 }
 
@@ -118,12 +131,12 @@ fn sum_of_card(alloc: Global, card: &[u8]) -> Result<Option<u64>, AllocError>
 }
 
 /// The sum that a deck writes and its card, where the deck has the form.
-fn sum_of_deck(alloc: Global, deck: &[Card]) -> Result<Option<(u64, &[u8])>, AllocError>
+fn sum_of_deck(alloc: Global, deck: &[Card]) -> Result<Option<(u64, &Card)>, AllocError>
     ensures { IfOk result (λ s. MatchOption s (sum_of_deck deck.now ≡ None) (λ p. (sum_of_deck deck.now ≡ Some p.0) × (p.1.now ≡ first_card deck.now))) }
 {
     match deck {
         [card] => match sum_of_card(alloc, card.as_slice())? {
-            Some(sum) => Ok(Some((sum, card.as_slice()))),
+            Some(sum) => Ok(Some((sum, card))),
             None => Ok(None),
         },
         _ => Ok(None),
@@ -131,7 +144,7 @@ fn sum_of_deck(alloc: Global, deck: &[Card]) -> Result<Option<(u64, &[u8])>, All
 }
 
 /// The sum that a job writes and its card, where its deck has the form and it may take the steps.
-pub fn sum_of_job(alloc: Global, job: &Job) -> Result<Option<(u64, &[u8])>, AllocError>
+pub fn sum_of_job(alloc: Global, job: &Job) -> Result<Option<(u64, &Card)>, AllocError>
     ensures { IfOk result (λ s. MatchOption s (sum_of_job job.now ≡ None) (λ p. (sum_of_job job.now ≡ Some p.0) × (p.1.now ≡ first_card job.now.deck))) }
 {
     if job.steps < SUM_STEPS {

@@ -1,4 +1,4 @@
-use crate::deck::deck_fault;
+use crate::deck::shown_diagnostics;
 use algolw_parser::{Parsed, parse};
 use algolw_scanner::{Scanned, scan};
 use algolw_tree::{Kind, Phrase};
@@ -15,17 +15,27 @@ fn job_of(alloc: Global, deck: &str) -> Result<Option<Job>, Fail> {
     Ok(reader.finish()?.jobs.into_vec().pop())
 }
 
-/// The fault of a deck, as `number at card,column`, or what else is to be said of it.
+/// A diagnostic, as `number at card,column`.
+fn said(alloc: Global, fault: Diagnostic) -> Result<String, AllocError> {
+    let Diagnostic { number, place } = fault;
+    format!(in alloc; "{number} at {},{}", place.card, place.column)
+}
+
+/// The fault of a deck's tokens or form, or what else is to be said of it.
 fn fault_of(alloc: Global, deck: &str) -> Result<String, Fail> {
-    match job_of(alloc, deck)? {
-        Some(job) if job.flaw.is_none() => match deck_fault(alloc, job.deck.as_slice())? {
-            Some(Diagnostic { number, place }) => Ok(format!(in alloc;
-                "{number} at {},{}",
-                place.card, place.column
-            )?),
-            None => Ok(String::from_str(alloc, "parsed")?),
-        },
-        _ => Ok(String::from_str(alloc, "flawed")?),
+    let Some(job) = job_of(alloc, deck)? else {
+        return Ok(String::from_str(alloc, "no job")?);
+    };
+    if job.flaw.is_some() {
+        return Ok(String::from_str(alloc, "flawed")?);
+    }
+    let tokens = match scan(alloc, job.deck.as_slice())? {
+        Scanned::Bad(fault) => return Ok(said(alloc, fault)?),
+        Scanned::Tokens(tokens) => tokens,
+    };
+    match parse(alloc, tokens.as_slice())? {
+        Parsed::Bad(fault) => Ok(said(alloc, fault)?),
+        Parsed::Tree(_) => Ok(String::from_str(alloc, "parsed")?),
     }
 }
 
@@ -243,5 +253,74 @@ fn groups_as_the_grammar_says(rt: HostRuntime) -> Result<(), Fail> {
         let found = first_phrase(alloc, deck)?;
         assert_eq!(rt; found.as_ref().map_or("none", shape), want, "{deck}");
     }
+    Ok(())
+}
+
+/// The diagnostics of a deck that are shown, each behind a blank.
+fn shown_of(alloc: Global, deck: &str) -> Result<String, Fail> {
+    let mut shown = String::new(alloc);
+    match job_of(alloc, deck)? {
+        Some(job) if job.flaw.is_none() => {
+            for fault in shown_diagnostics(alloc, job.deck.as_slice())?.as_slice() {
+                shown.push_str(" ")?;
+                shown.push_str(said(alloc, *fault)?.as_str())?;
+            }
+        }
+        _ => shown.push_str(" flawed")?,
+    }
+    Ok(shown)
+}
+
+/// Decks, each with the diagnostics that are shown: of the tokens alone, of the form alone, or of the names and types.
+const SHOWN: [(&str, &str); 6] = [
+    ("BEGIN Y := 1 ) WRITE(1.5) END.", " 13 at 1,22"),
+    ("BEGIN Y := 1 ) END.", " 20 at 1,14"),
+    ("BEGIN X := X + 1 END.", " 30 at 1,7 30 at 1,12"),
+    (
+        "BEGIN INTEGER X, X; LOGICAL Y; X := TRUE; Y := X END.",
+        " 31 at 1,18 37 at 1,34 37 at 1,45",
+    ),
+    ("BEGIN FOR I := 1 UNTIL 2 DO I := 3 END.", " 43 at 1,31"),
+    ("BEGIN WRITE(7 / 2) END.", " 34 at 1,15"),
+];
+
+/// Programs without faults, which have between them each kind of phrase, declaration, list and part.
+const GOOD: [&str; 12] = [
+    "BEGIN END.",
+    "BEGIN INTEGER I, J; LOGICAL L; BITS B; STRING(3) S; I := J := 1; L := TRUE; L\n:= FALSE; B := #F; S := \"ABC\"; I := (J) END.",
+    "BEGIN INTEGER I; LOGICAL L; BITS B; I := - 1 + 2 * 3 DIV 4 REM 5 - 6; I := +\n7; I := ABS I; L := ~ L AND L OR I < 2; B := ~ #1 AND #2 OR B SHL 1 SHR 2 END.",
+    "BEGIN LOGICAL L; BITS B; INTEGER I; L := I = 1; L := I <= 1; L := I > 1; L :=\nI >= 1; L := B ~= #0; L := \"A\" < \"B\" END.",
+    "BEGIN INTEGER I; IF I = 1 THEN I := 2; IF I = 1 THEN I := 2 ELSE I := 3; I :=\nIF I = 1 THEN 2 ELSE 3; I := CASE I OF (1, 2, 3); CASE I OF BEGIN I := 1; ;\nEND END.",
+    "BEGIN INTEGER I; FOR J := 1 UNTIL 2 DO I := J; FOR J := 1 STEP 2 UNTIL 9 DO I\n:= J; FOR J := 1, 2, 3 DO I := J; WHILE I > 0 DO I := I - 1; GOTO L; L: M:\nASSERT I = 0; GO TO L END.",
+    "BEGIN INTEGER ARRAY A, B (1::3, 0::4); STRING(8) S; STRING(2) ARRAY T (1::2);\nA(1,2) := B(3,4); S(0|3) := \"ABC\"; S := S(1|2); T(1)(0|1) := \"X\" END.",
+    "BEGIN RECORD R (INTEGER A, B; REFERENCE(R) C); RECORD Q (LOGICAL D);\nREFERENCE(R) P; REFERENCE(R, Q) O; P := NULL; P := R(1, 2, NULL); P := R; A(P)\n:= B(C(P)); O := P; IF O IS Q THEN ASSERT P ~= NULL END.",
+    "BEGIN PROCEDURE P (INTEGER A; INTEGER VALUE B; INTEGER RESULT C; INTEGER VALUE\nRESULT D; PROCEDURE Q; INTEGER PROCEDURE F; INTEGER ARRAY E (*)); BEGIN C := A\n+ B + D + F + E(1); Q END; INTEGER PROCEDURE G; 1; PROCEDURE R; ; INTEGER\nARRAY X, Y (1::2); INTEGER ARRAY Z (1::2, 1::2); INTEGER I; P(I, 2, I, I, R,\nG, X); P(I + 1, G, Y(1), I, I := 1, 3, Z(*, 1)) END.",
+    "BEGIN INTEGER I; STRING(4) S; STRING(80) T; BITS B; READ(I); READON(I, S);\nREADCARD(T); WRITE(I, S); WRITEON(B); IOCONTROL(1); I := DECODE(S(0|1));\nS(0|1) := CODE(I); B := BITSTRING(I); I := NUMBER(B); IF ODD(I) THEN I :=\nMAXINTEGER END.",
+    "BEGIN INTEGER I; I := BEGIN INTEGER J; J := 1; J + 1 END; BEGIN BEGIN END; I\n:= 2 END END.",
+    "BEGIN PROCEDURE A; BEGIN PROCEDURE B; A; RECORD C (REFERENCE(C) D); B END;\nINTEGER PROCEDURE F (INTEGER VALUE N); IF N = 0 THEN 1 ELSE N * F(N - 1); A;\nWRITE(F(5)) END.",
+];
+
+#[test]
+fn finds_no_fault_in_good_programs(rt: HostRuntime) -> Result<(), Fail> {
+    let alloc = rt.alloc();
+    for deck in GOOD {
+        assert_eq!(rt; shown_of(alloc, deck)?.as_str(), "", "{deck}");
+    }
+    Ok(())
+}
+
+#[test]
+fn shows_the_diagnostics_of_a_deck(rt: HostRuntime) -> Result<(), Fail> {
+    let alloc = rt.alloc();
+    for (deck, shown) in SHOWN {
+        assert_eq!(rt; shown_of(alloc, deck)?.as_str(), shown, "{deck}");
+    }
+    let deck = nested(alloc, "BEGIN", "GOTO Q;", 21, "END.")?;
+    let mut twenty = String::new(alloc);
+    for card in 2..22 {
+        let fault = format!(in alloc; " 30 at {card},6")?;
+        twenty.push_str(fault.as_str())?;
+    }
+    assert_eq!(rt; shown_of(alloc, deck.as_str())?.as_str(), twenty.as_str());
     Ok(())
 }

@@ -1,18 +1,14 @@
-ghost use Rattle.std.specs.Prelude.{◌≡◌, ◌≤◌, ◌++◌, ◌∷◌, [], OnOk, decimal, length};
+ghost use Rattle.std.specs.Prelude.{◌≡◌, ◌≤◌, ◌++◌, ◌∷◌, [], IfSome, OnOk, decimal, length};
 ghost use Rattle.short_text.specs.Blanks.{right};
 ghost use Rattle.algolw_meaning.specs.Texts.{line, source_line, sum_line, place_text, diagnostic_head, diagnostic_line};
 
 use account_book::{Counts, charge_of};
 use itoa::Buffer;
-use line_text::Line;
+use post_mortem::source_line;
 use std::alloc::{AllocError, Global};
-use value_ops::{Diagnostic, Place};
+use value_ops::{Card, Diagnostic, Place};
 
-/// The columns of a card's number, of a count, and of an INTEGER that is printed.
-const NUMBER_WIDTH: usize = 4;
-
-const COUNT_WIDTH: usize = 8;
-
+/// The columns of an INTEGER that is printed.
 const INTEGER_WIDTH: usize = 14;
 
 /// Adds the decimal text of a number.
@@ -62,35 +58,18 @@ pub fn push_integer_line(out: &mut Vec<u8>, number: u64) -> Result<(), AllocErro
     Ok(())
 }
 
-/// Adds a card behind its number and a count.
+/// Adds the line of a card: its number, a count or none, and the card.
 pub fn push_source_line(
     out: &mut Vec<u8>,
     number: u32,
-    count: &[u8],
-    card: &[u8],
+    count: Option<u32>,
+    card: &Card,
 ) -> Result<(), AllocError>
     requires number { number ≤ 9999 }
-    requires count { length count.now ≤ 8 }
-    requires card { length card.now ≤ 80 }
-    ensures { OnOk result (out.new.items ≡ out.old.items ++ source_line number count.now card.now) }
+    requires count { IfSome count (λ n. n ≤ 99999999) }
+    ensures { OnOk result (out.new.items ≡ out.old.items ++ source_line number count card.now) }
 {
-    push_line(out, source_text(number, count, card).trimmed())
-}
-
-/// A card behind its number and a count.
-fn source_text(number: u32, count: &[u8], card: &[u8]) -> Line
-    requires number { number ≤ 9999 }
-    requires count { length count.now ≤ 8 }
-    requires card { length card.now ≤ 80 }
-    ensures { result ≡ right 4 (decimal number) ++ 32 ∷ [] ++ right 8 count.now ++ 32 ∷ 32 ∷ [] ++ card.now }
-{
-    let mut line = Line::new();
-    line.number(NUMBER_WIDTH, i64::from(number));
-    line.blanks(1);
-    line.place(COUNT_WIDTH, count);
-    line.blanks(2);
-    line.place(card.len(), card);
-    line
+    push_line(out, source_line(card, number, count).as_slice())
 }
 
 /// Adds a card's number and a column.

@@ -1,3 +1,1 @@
-pub mod Again
-pub mod Knowing
-pub mod Placing
+pub mod Programs

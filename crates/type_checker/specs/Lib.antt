@@ -1,6 +1,1 @@
-pub mod DraftView
-pub mod KnownView
-pub mod KnownHeld
-pub mod KnownPaths
-pub mod Groups
-pub mod Seconds
+pub mod Says

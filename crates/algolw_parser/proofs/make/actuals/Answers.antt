@@ -1,6 +1,6 @@
 use Rattle.std.proofs.Common.{ap}
 use Rattle.algolw_tree.specs.Tree.{OfActuals}
-use Rattle.algolw_parser.proofs.Rows.{vec_actuals}
+use Rattle.algolw_tree.proofs.Rows.{vec_actuals}
 use Rattle.algolw_parser.proofs.make.actuals.Goals as goal
 
 pub returns : goal.returns

@@ -1,7 +1,7 @@
 use Rattle.std.proofs.Common.{ap}
 use Rattle.algolw_tree.specs.Tree.{Array}
 use Rattle.algolw_tree.specs.View.{spec_tree}
-use Rattle.algolw_parser.proofs.Rows.{vec_bounds}
+use Rattle.algolw_tree.proofs.Rows.{vec_bounds}
 use Rattle.algolw_parser.proofs.make.arrays.Goals as goal
 
 pub returns : goal.returns

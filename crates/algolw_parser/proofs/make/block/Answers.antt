@@ -1,4 +1,4 @@
-use Rattle.algolw_parser.proofs.Rows.{vec_decls, vec_items}
+use Rattle.algolw_tree.proofs.Rows.{vec_decls, vec_items}
 use Rattle.algolw_parser.proofs.make.block.Goals as goal
 
 pub returns : goal.returns

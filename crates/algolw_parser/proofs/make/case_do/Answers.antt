@@ -2,7 +2,7 @@ use Rattle.std.proofs.Common.{ap, ◌∙◌}
 use Rattle.algolw_tree.specs.Tree.{CaseDo}
 use Rattle.algolw_tree.specs.Grammar.{at}
 use Rattle.algolw_tree.specs.View.{tree}
-use Rattle.algolw_parser.proofs.Rows.{vec_phrases}
+use Rattle.algolw_tree.proofs.Rows.{vec_phrases}
 use Rattle.algolw_parser.proofs.make.case_do.Goals as goal
 
 pub returns : goal.returns

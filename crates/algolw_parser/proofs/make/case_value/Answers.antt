@@ -2,7 +2,7 @@ use Rattle.std.proofs.Common.{ap, ◌∙◌}
 use Rattle.algolw_tree.specs.Tree.{CaseValue}
 use Rattle.algolw_tree.specs.Grammar.{at}
 use Rattle.algolw_tree.specs.View.{tree}
-use Rattle.algolw_parser.proofs.Rows.{vec_phrases}
+use Rattle.algolw_tree.proofs.Rows.{vec_phrases}
 use Rattle.algolw_parser.proofs.make.case_value.Goals as goal
 
 pub returns : goal.returns

@@ -1,6 +1,6 @@
 use Rattle.std.proofs.Common.{◌≡◌, length, ◌∙◌, arith}
 use Rattle.std.proofs.lemmas.Grind.{common_steps}
-use Rattle.algolw_parser.proofs.Rows.{chain_tree}
+use Rattle.algolw_parser.proofs.Chains.{chain_tree}
 use Rattle.algolw_parser.proofs.make.chained.Goals as goal
 
 pub returns : goal.returns

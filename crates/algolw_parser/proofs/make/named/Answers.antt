@@ -1,7 +1,7 @@
 use Rattle.std.proofs.Common.{ap, ◌∙◌}
 use Rattle.algolw_tree.specs.Tree.{Named}
 use Rattle.algolw_tree.specs.Grammar.{at}
-use Rattle.algolw_parser.proofs.Rows.{vec_lists}
+use Rattle.algolw_tree.proofs.Rows.{vec_lists}
 use Rattle.algolw_parser.proofs.make.named.Goals as goal
 
 pub returns : goal.returns

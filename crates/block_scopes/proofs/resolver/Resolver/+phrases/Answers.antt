@@ -1,15 +1,14 @@
 use Rattle.std.proofs.Common.{◌+◌, suc, map, refl, ap, rules}
 use Rattle.algolw_tree.specs.Grammar.{phrases_of, links_of, lists_of, actuals_of, items_of, decls_of, bounds_of}
-use Rattle.algolw_tree.specs.View.{tree, link_tree, list_tree, actual_tree, item_tree, decl_tree, bound_tree, spec_tree}
+use Rattle.algolw_tree.specs.View.{tree, link_tree, list_tree, actual_tree, item_tree, decl_tree, bound_tree, spec_tree, optional_tree}
 use Rattle.algolw_typing.specs.Naming.{phrases_naming, links_naming, lists_naming, actuals_naming, items_naming, bounds_naming, decls_naming, spec_uses}
 use Rattle.block_scopes.specs.Adding.{frame_view}
-use Rattle.block_scopes.specs.Parts.{perhaps_of}
 use Rattle.block_scopes.specs.Paths.{path_view}
 use Rattle.std.proofs.lemmas.Result.{on_ok_weaker}
 use Rattle.block_scopes.proofs.Added.{finish, adds_and}
 use Rattle.block_scopes.proofs.Arms.{by_naming, by_kind, by_listing, by_decl, controlled, for_step_naming, for_list_naming, range_inside}
-use Rattle.block_scopes.proofs.Rows.{named_at, chain_at, case_value_at, case_do_at, for_step_at, for_list_at, block_at, actuals_at, array_at}
-use Rattle.block_scopes.proofs.Sizes.{size, size_kind, size_phrases, size_links, size_lists, size_listing, size_actuals, size_actual, size_items, size_bounds, size_decls, size_decl, item_smaller}
+use Rattle.algolw_tree.proofs.Rows.{named_at, chain_at, case_value_at, case_do_at, for_step_at, for_list_at, block_at, actuals_at, array_at}
+use Rattle.algolw_tree.proofs.Sizes.{size, size_kind, size_phrases, size_links, size_lists, size_listing, size_actuals, size_actual, size_items, size_bounds, size_decls, size_decl, item_smaller}
 use Rattle.block_scopes.proofs.resolver.Resolver.+phrases.Goals as goal
 
 pub phrases-phrase-requires : goal.phrases-phrase-requires
@@ -104,8 +103,8 @@ phrase-for_list-requires t c = search (rules, ap size_kind (for_list_at _ c.in-F
 pub phrase-returns-in_ok-range-in-ForStep : goal.phrase-returns-in_ok-range-in-ForStep
 phrase-returns-in_ok-range-in-ForStep t c =
     by_kind c.phrase-in-ForStep.result c.args.self.now c.phrase-in-ForStep.new.self (frame_view c.args.frame) (path_view c.args.path.now) c.args.phrase.now.place _ _ (for_step_at _ c.in-ForStep.name c.in-ForStep.start c.in-ForStep.step c.in-ForStep.limit c.in-ForStep.body _ _ _ c.in-ForStep.is c.deref-in-ForStep.ensures c.deref-in-ForStep-2.ensures c.deref-in-ForStep-3.ensures)
-    (by_naming c.phrase-in-ForStep.result c.args.self.now c.phrase-in-ForStep.new.self _ _ (for_step_naming (frame_view c.args.frame) (path_view c.args.path.now) c.args.phrase.now.place c.in-ForStep.name c.in_ok-scope-in-ForStep.scope (tree c.deref-in-ForStep.result.now) (perhaps_of c.in-ForStep.step) (tree c.deref-in-ForStep-2.result.now) (tree c.deref-in-ForStep-3.result.now) c.in_ok-scope-in-ForStep.ensures)
-    (controlled c.phrase-in-ForStep.result c.args.self.now c.declares.new.self c.range.new.self c.phrase-in-ForStep.new.self (frame_view c.args.frame) (frame_view c.in_ok-inner-in-ForStep.inner) (path_view c.args.path.now) c.in_ok-scope-in-ForStep.scope _ (tree c.deref-in-ForStep-3.result.now) c.in_ok-inner-in-ForStep.ensures.adds c.in_ok-inner-in-ForStep.ensures.inner (range_inside _ _ _ _ (path_view c.args.path.now) (tree c.deref-in-ForStep.result.now) (perhaps_of c.in-ForStep.step) (tree c.deref-in-ForStep-2.result.now) c.in_ok-inner-in-ForStep.ensures.inner c.in_ok-range-in-ForStep.ensures) c.phrase-in-ForStep.ensures))
+    (by_naming c.phrase-in-ForStep.result c.args.self.now c.phrase-in-ForStep.new.self _ _ (for_step_naming (frame_view c.args.frame) (path_view c.args.path.now) c.args.phrase.now.place c.in-ForStep.name c.in_ok-scope-in-ForStep.scope (tree c.deref-in-ForStep.result.now) (optional_tree c.in-ForStep.step) (tree c.deref-in-ForStep-2.result.now) (tree c.deref-in-ForStep-3.result.now) c.in_ok-scope-in-ForStep.ensures)
+    (controlled c.phrase-in-ForStep.result c.args.self.now c.declares.new.self c.range.new.self c.phrase-in-ForStep.new.self (frame_view c.args.frame) (frame_view c.in_ok-inner-in-ForStep.inner) (path_view c.args.path.now) c.in_ok-scope-in-ForStep.scope _ (tree c.deref-in-ForStep-3.result.now) c.in_ok-inner-in-ForStep.ensures.adds c.in_ok-inner-in-ForStep.ensures.inner (range_inside _ _ _ _ (path_view c.args.path.now) (tree c.deref-in-ForStep.result.now) (optional_tree c.in-ForStep.step) (tree c.deref-in-ForStep-2.result.now) c.in_ok-inner-in-ForStep.ensures.inner c.in_ok-range-in-ForStep.ensures) c.phrase-in-ForStep.ensures))
 
 pub phrase-returns-in_ok-scope-in-ForList : goal.phrase-returns-in_ok-scope-in-ForList
 phrase-returns-in_ok-scope-in-ForList t c =

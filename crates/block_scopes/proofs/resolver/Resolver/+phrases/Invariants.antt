@@ -1,12 +1,11 @@
 use Rattle.std.proofs.Common.{suc, ◌+◌, map, drop}
 use Rattle.algolw_tree.specs.Grammar.{phrases_of, links_of, lists_of, actuals_of, items_of, decls_of, bounds_of}
-use Rattle.algolw_tree.specs.View.{tree, link_tree, list_tree, actual_tree, item_tree, decl_tree, bound_tree, procedure_tree}
+use Rattle.algolw_tree.specs.View.{tree, link_tree, list_tree, actual_tree, item_tree, decl_tree, bound_tree, procedure_tree, optional_tree}
 use Rattle.algolw_typing.specs.Naming.{phrases_naming, links_naming, lists_naming, actuals_naming, items_naming, bounds_naming, decls_naming}
 use Rattle.block_scopes.specs.Adding.{frame_view}
-use Rattle.block_scopes.specs.Parts.{perhaps_of}
 use Rattle.block_scopes.specs.Paths.{path_view}
 use Rattle.block_scopes.proofs.Added.{Left}
-use Rattle.block_scopes.proofs.Sizes.{size, size_perhaps, size_phrases, size_links, size_lists, size_listing, size_actuals, size_actual, size_items, size_bounds, size_decls, size_decl}
+use Rattle.algolw_tree.proofs.Sizes.{size, size_perhaps, size_phrases, size_links, size_lists, size_listing, size_actuals, size_actual, size_items, size_bounds, size_decls, size_decl}
 use Rattle.block_scopes.proofs.resolver.Resolver.+phrases.Given as goal
 
 abbrev pub decreases-phrase : goal.decreases-phrase
@@ -25,19 +24,19 @@ abbrev pub decreases-is_class : goal.decreases-is_class
 decreases-is_class l = suc (size (tree l.operand.now))
 
 abbrev pub decreases-conditional : goal.decreases-conditional
-decreases-conditional l = suc (size (tree l.condition.now) + size (tree l.then.now) + size_perhaps (perhaps_of l.otherwise.now))
+decreases-conditional l = suc (size (tree l.condition.now) + size (tree l.then.now) + size_perhaps (optional_tree l.otherwise.now))
 
 abbrev pub decreases-selection : goal.decreases-selection
 decreases-selection l = suc (size (tree l.subject.now) + size_phrases (phrases_of (map tree l.parts.now)))
 
 abbrev pub decreases-range : goal.decreases-range
-decreases-range l = suc (size (tree l.start.now) + size_perhaps (perhaps_of l.step.now) + size (tree l.limit.now))
+decreases-range l = suc (size (tree l.start.now) + size_perhaps (optional_tree l.step.now) + size (tree l.limit.now))
 
 abbrev pub decreases-for_list : goal.decreases-for_list
 decreases-for_list l = suc (size_phrases (phrases_of (map tree l.values.now)) + size (tree l.body.now))
 
 abbrev pub decreases-perhaps : goal.decreases-perhaps
-decreases-perhaps l = size_perhaps (perhaps_of l.phrase.now)
+decreases-perhaps l = size_perhaps (optional_tree l.phrase.now)
 
 abbrev pub decreases-list : goal.decreases-list
 decreases-list l = size_listing (list_tree l.list.now)

@@ -1,0 +1,5 @@
+pub mod Again
+pub mod Bounding
+pub mod Knowing
+pub mod NoCard
+pub mod Placing

@@ -1,0 +1,8 @@
+-- What a scope with meanings holds to.
+use Rattle.std.specs.Prelude.{◌≡◌, List, length}
+use Rattle.algolw_tree.specs.Tree.{Placed}
+use Rattle.declared_names.specs.declared.known.Known.{Known}
+
+-- as much is known as there are names
+pub record AsMany (names : List Placed) (known : List Known) : Type 0 where
+  pub each : length known ≡ length names

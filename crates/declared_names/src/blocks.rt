@@ -1,0 +1,298 @@
+ghost use Rattle.std.specs.Prelude.{◌≡◌, ◌++◌, ◌∷◌, [], None, IfOk, OnOk, map};
+ghost use Rattle.algolw_tree.specs.Grammar.{decls_of, items_of};
+ghost use Rattle.algolw_tree.specs.View.{class_tree, decl_tree, item_tree, procedure_tree, spec_tree};
+ghost use Rattle.algolw_typing.specs.Actuals as actuals;
+ghost use Rattle.algolw_typing.specs.Meanings as meanings;
+ghost use Rattle.algolw_typing.specs.Rows as rows;
+ghost use Rattle.algolw_typing.specs.Scopes as scopes;
+ghost use Rattle.algolw_typing.specs.Typing as rules;
+ghost use Rattle.algolw_typing.specs.Verdicts as verdicts;
+ghost use Rattle.typing_rules.specs.View as view;
+ghost use Rattle.declared_names.specs.Blocks.{bounds_view, decl_bounds, DeclFound};
+ghost use Rattle.declared_names.specs.KnownPaths.{path_view};
+
+use crate::declarations::{
+    declare_class, declare_names, dimension_fault, draft_groups, formal_faults, formal_types, good,
+    group_faults, places, result_faults, result_type, spec_faults, spec_type,
+};
+use crate::known::{Known, KnownPath, KnownScope};
+use algolw_tree::{ClassDecl, Decl, Item, Names, ProcDecl, TypeSpec};
+use bumpalo::Bump;
+use std::alloc::{AllocError, Global};
+use typed_drafts::{DraftBound, DraftClass, DraftDecl};
+use typing_rules::{Meaning, NoType, Reading, Verdict, bound_row};
+use value_ops::{Diagnostic, Name, Place};
+
+/// What is found of the bounds of a declaration, with their faults.
+#[derive(Drop)]
+pub struct Bounds<'a> {
+    /// The faults in them.
+    pub faults: Vec<Diagnostic>,
+    /// The bounds.
+    pub drafts: Vec<DraftBound<'a>>,
+}
+
+/// The bounds of what is no array.
+pub fn no_bounds<'a>(alloc: Global) -> Bounds<'a>
+    ensures { bounds_view result ≡ rules.no_more_bounds }
+{
+    Bounds {
+        faults: Vec::new(alloc),
+        drafts: Vec::new(alloc),
+    }
+}
+
+// ---- the names of a block, before anything is known of what they mean
+
+/// Declares the fields of a class, of which nothing is known.
+#[tactic(auto, using(crate::proofs::Placing::entries_append))]
+fn name_fields(class: &ClassDecl, scope: &mut KnownScope) -> Result<(), AllocError>
+    ensures { OnOk result (scope.new ≡ scope.old ++ scopes.entries (scopes.group_names (class_tree class.now).groups) None) }
+{
+    for (_, names) in &class.groups {
+        declare_names(names, None, scope)?;
+    }
+    Ok(())
+}
+
+/// Declares a name of which nothing is known but whether it is a class.
+fn name_alone(
+    name: &(Name, Place),
+    is_class: bool,
+    scope: &mut KnownScope,
+) -> Result<(), AllocError>
+    ensures { OnOk result (scope.new ≡ scope.old ++ scopes.known name.now is_class actuals.as_phrases None ∷ []) }
+{
+    let known = Known {
+        place: name.1,
+        is_class,
+        reading: Reading::AsPhrases,
+        means: None,
+    };
+    scope.declare(name.0, known)
+}
+
+/// Declares the names of a declaration, of which nothing is known.
+fn name_decl(decl: &Decl, scope: &mut KnownScope) -> Result<(), AllocError>
+    ensures { OnOk result (scope.new ≡ scope.old ++ scopes.names_of_decl (decl_tree decl.now)) }
+{
+    match decl {
+        Decl::Simple(_, names) | Decl::Array(_, names, _) => declare_names(names, None, scope),
+        Decl::Proc(procedure) => name_alone(&procedure.name, false, scope),
+        Decl::Class(class) => {
+            name_alone(&class.name, true, scope)?;
+            name_fields(class, scope)
+        }
+    }
+}
+
+/// Declares labels.
+pub fn declare_labels(items: &[Item], scope: &mut KnownScope) -> Result<(), AllocError>
+    ensures { OnOk result (scope.new ≡ scope.old ++ scopes.label_entries (items_of (map item_tree items.now))) }
+{
+    for item in items {
+        declare_names(&item.labels, Some(Meaning::Label), scope)?;
+    }
+    Ok(())
+}
+
+/// Declares the names of declarations, of which nothing is known.
+fn name_decls(decls: &[Decl], scope: &mut KnownScope) -> Result<(), AllocError>
+    ensures { OnOk result (scope.new ≡ scope.old ++ scopes.names_of_decls (decls_of (map decl_tree decls.now))) }
+{
+    for decl in decls {
+        name_decl(decl, scope)?;
+    }
+    Ok(())
+}
+
+/// The names of a block as they stand in it, before anything is known of what they mean.
+pub fn names_of_block<'a>(
+    alloc: Global,
+    decls: &[Decl],
+    items: &[Item],
+) -> Result<KnownScope<'a>, AllocError>
+    ensures { IfOk result (λ s. s ≡ scopes.names_of_block (decls_of (map decl_tree decls.now)) (items_of (map item_tree items.now))) }
+{
+    let mut scope = KnownScope::new(alloc);
+    name_decls(decls, &mut scope)?;
+    declare_labels(items, &mut scope)?;
+    Ok(scope)
+}
+
+// ---- what its declarations make of its names
+
+/// Declares simple variables.
+fn declare_simple<'a>(
+    alloc: Global,
+    arena: &'a Bump,
+    path: &KnownPath<'_, 'a>,
+    spec: &TypeSpec,
+    names: &Names,
+    scope: &mut KnownScope<'a>,
+) -> Result<(), AllocError>
+    ensures { OnOk result (scope.new ≡ scope.old ++ scopes.entries names.now.items (scopes.good (scopes.spec_faults (path_view path.now) (spec_tree spec.now)) (meanings.a_variable (scopes.spec_type (path_view path.now) (spec_tree spec.now))))) }
+{
+    let mut faults = Vec::new(alloc);
+    spec_faults(path, spec, &mut faults)?;
+    let variable = Meaning::Variable(spec_type(arena, path, spec)?);
+    declare_names(names, good(&faults, variable), scope)
+}
+
+/// Declares arrays of so many dimensions, in whose bounds these faults were found.
+fn declare_array<'a>(
+    alloc: Global,
+    arena: &'a Bump,
+    path: &KnownPath<'_, 'a>,
+    spec: &TypeSpec,
+    names: &Names,
+    dimensions: usize,
+    found: &[Diagnostic],
+    scope: &mut KnownScope<'a>,
+) -> Result<(), AllocError>
+    ensures { OnOk result (scope.new ≡ scope.old ++ scopes.entries names.now.items (scopes.good (rules.array_faults (path_view path.now) (spec_tree spec.now) names.now.items dimensions ++ scopes.without_twice found.now) (meanings.an_array (scopes.spec_type (path_view path.now) (spec_tree spec.now)) dimensions))) }
+{
+    let Ok(count) = u32::try_from(dimensions) else {
+        return Err(AllocError);
+    };
+    let mut faults = Vec::new(alloc);
+    spec_faults(path, spec, &mut faults)?;
+    dimension_fault(names, dimensions, &mut faults)?;
+    add_without_twice(found, &mut faults)?;
+    let array = Meaning::Array(spec_type(arena, path, spec)?, count);
+    declare_names(names, good(&faults, array), scope)
+}
+
+/// Adds the faults that make a declaration faulty: all but 31.
+fn add_without_twice(found: &[Diagnostic], faults: &mut Vec<Diagnostic>) -> Result<(), AllocError>
+    ensures { OnOk result (faults.new.items ≡ faults.old.items ++ scopes.without_twice found.now) }
+{
+    for fault in found {
+        if fault.number != 31 {
+            faults.push(*fault)?;
+        }
+    }
+    Ok(())
+}
+
+/// Declares a procedure.
+fn declare_procedure<'a>(
+    alloc: Global,
+    arena: &'a Bump,
+    path: &KnownPath<'_, 'a>,
+    procedure: &ProcDecl,
+    scope: &mut KnownScope<'a>,
+) -> Result<(), AllocError>
+    ensures { (around : scopes.Scopes) → OnOk result (scope.new ≡ scope.old ++ rules.meanings_of around (path_view path.now) (procedure_tree procedure.now)) }
+{
+    let mut faults = Vec::new(alloc);
+    result_faults(path, &procedure.result, &mut faults)?;
+    formal_faults(path, &procedure.formals, &mut faults)?;
+    let result_type = result_type(arena, path, &procedure.result)?;
+    let formals = formal_types(alloc, arena, path, &procedure.formals)?;
+    let known = Known {
+        place: procedure.name.1,
+        is_class: false,
+        reading: Reading::ForFormals(formals),
+        means: good(&faults, Meaning::Procedure(result_type, formals)),
+    };
+    scope.declare(procedure.name.0, known)
+}
+
+/// Declares what a declaration with these bounds makes of its names.
+pub fn declare<'a>(
+    alloc: Global,
+    arena: &'a Bump,
+    path: &KnownPath<'_, 'a>,
+    decl: &Decl,
+    bounds: &Bounds<'a>,
+    scope: &mut KnownScope<'a>,
+) -> Result<(), AllocError>
+    ensures { (around : scopes.Scopes) → bounds_view bounds.now ≡ decl_bounds around (decl_tree decl.now) → OnOk result (scope.new ≡ scope.old ++ rules.meanings_of around (path_view path.now) (decl_tree decl.now)) }
+{
+    match decl {
+        Decl::Simple(spec, names) => declare_simple(alloc, arena, path, spec, names, scope),
+        Decl::Array(spec, names, sizes) => {
+            let dimensions = sizes.len();
+            declare_array(
+                alloc,
+                arena,
+                path,
+                spec,
+                names,
+                dimensions,
+                &bounds.faults,
+                scope,
+            )
+        }
+        Decl::Proc(procedure) => declare_procedure(alloc, arena, path, procedure, scope),
+        Decl::Class(class) => declare_class(alloc, arena, path, class, scope),
+    }
+}
+
+// ---- the declarations themselves
+
+/// The verdict of bounds, at `::`.
+pub fn bound_verdict<'a>(place: Place, lower: Verdict<'a>, upper: Verdict<'a>) -> Verdict<'a>
+    ensures { view.verdict result ≡ verdicts.two_parts (verdicts.type_of (view.verdict lower.entry)) (verdicts.type_of (view.verdict upper.entry)) (rows.bound_row place) }
+{
+    match (lower, upper) {
+        (Ok(lower), Ok(upper)) => bound_row(place, lower, upper),
+        _ => Err(NoType::Silent),
+    }
+}
+
+/// Simple variables.
+pub fn simple<'a>(
+    alloc: Global,
+    arena: &'a Bump,
+    path: &KnownPath<'_, 'a>,
+    spec: &TypeSpec,
+    names: &Names,
+    faults: &mut Vec<Diagnostic>,
+) -> Result<DraftDecl<'a>, AllocError>
+    ensures { IfOk result (λ d. DeclFound faults.old.items faults.new.items d (rules.simple_out (path_view path.now) (spec_tree spec.now) names.now.items)) }
+{
+    spec_faults(path, spec, faults)?;
+    let simple_type = spec_type(arena, path, spec)?;
+    Ok(DraftDecl::Simple(simple_type, places(alloc, names)?))
+}
+
+/// Arrays of so many dimensions, with these bounds.
+#[tactic(auto, using(typed_drafts::proofs::DraftRows::vec_bounds))]
+pub fn array<'a>(
+    alloc: Global,
+    arena: &'a Bump,
+    path: &KnownPath<'_, 'a>,
+    spec: &TypeSpec,
+    names: &Names,
+    dimensions: usize,
+    bounds: Bounds<'a>,
+    faults: &mut Vec<Diagnostic>,
+) -> Result<DraftDecl<'a>, AllocError>
+    ensures { IfOk result (λ d. DeclFound faults.old.items faults.new.items d (rules.array_out (path_view path.now) (spec_tree spec.now) names.now.items dimensions (bounds_view bounds.entry))) }
+{
+    spec_faults(path, spec, faults)?;
+    dimension_fault(names, dimensions, faults)?;
+    faults.extend_from_slice(&bounds.faults)?;
+    let element_type = spec_type(arena, path, spec)?;
+    let names = places(alloc, names)?;
+    Ok(DraftDecl::Array(element_type, names, bounds.drafts))
+}
+
+/// A record class.
+pub fn class<'a>(
+    alloc: Global,
+    arena: &'a Bump,
+    path: &KnownPath<'_, 'a>,
+    class: &ClassDecl,
+    faults: &mut Vec<Diagnostic>,
+) -> Result<DraftDecl<'a>, AllocError>
+    ensures { IfOk result (λ d. DeclFound faults.old.items faults.new.items d (rules.class_out (path_view path.now) (class_tree class.now))) }
+{
+    group_faults(path, class, faults)?;
+    Ok(DraftDecl::Class(DraftClass {
+        name: class.name.1,
+        groups: draft_groups(alloc, arena, path, class)?,
+    }))
+}

@@ -1,0 +1,16 @@
+//! What is known of the names of a program, and what each declaration makes known.
+#![tactic(auto)]
+
+mod blocks;
+mod declarations;
+mod known;
+mod procedures;
+mod standard;
+
+pub use blocks::{
+    Bounds, array, bound_verdict, class, declare, declare_labels, names_of_block, no_bounds, simple,
+};
+pub use declarations::{class_fault, formal_scope, places, twice};
+pub use known::{Known, KnownPath, KnownScope, meaning_of, place_of};
+pub use procedures::{Head, procedure, procedure_verdict, read_head};
+pub use standard::standard_scope;

@@ -1,0 +1,9 @@
+pub mod CardColumns
+pub mod CardLaw
+pub mod FrontItems
+pub mod ItemForms
+pub mod ItemStarts
+pub mod Literals
+pub mod Numerals
+pub mod ScanLaw
+pub mod Words

@@ -1,0 +1,4 @@
+pub mod Columns
+pub mod Items
+pub mod Scanning
+pub mod Laws

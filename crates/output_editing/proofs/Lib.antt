@@ -1,0 +1,4 @@
+pub mod Lays
+pub mod Pages
+pub mod Widths
+pub mod Rows

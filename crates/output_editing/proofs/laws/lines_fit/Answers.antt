@@ -1,0 +1,5 @@
+use Rattle.output_editing.proofs.Widths.{lines_fit}
+use Rattle.output_editing.proofs.laws.lines_fit.Goals as goal
+
+pub returns : goal.returns
+returns c = lines_fit

@@ -1,0 +1,5 @@
+pub mod Layout
+pub mod Written
+pub mod Page
+pub mod Held
+pub mod Laws

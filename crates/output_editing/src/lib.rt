@@ -1,0 +1,11 @@
+//! What a program prints: the values that it writes, edited into lines.
+#![tactic(auto)]
+
+mod fields;
+mod laws;
+mod printer;
+#[cfg(test)]
+mod tests;
+
+pub use laws::{lines_are_never_fewer, lines_fit, lines_stay};
+pub use printer::Printer;

@@ -1,0 +1,46 @@
+-- What is found of a FOR.
+use Rattle.std.proofs.Common.{◌≡◌, List, ◌++◌, Option, Result, IfOk, refl, ap, ◌∙◌, append_assoc}
+use Rattle.std.proofs.lemmas.Result.{IfOk-weaker}
+use Rattle.value_ops.specs.declared.places.Diagnostic.{Diagnostic}
+use Rattle.value_ops.specs.declared.places.Place.{Place}
+use Rattle.algolw_typing.specs.Types.{Gives}
+use Rattle.algolw_typing.specs.Typed as typed
+use Rattle.algolw_typing.specs.Typing.{Out, PhrasesOut, faults, for_until_out, for_step_out, for_list_out}
+use Rattle.phrase_checker.specs.Checked.{Checked, Noted, PhrasesChecked}
+use Rattle.typed_phrases.specs.Found.{Finds, found_view}
+use Rattle.typed_phrases.specs.FoundParts.{phrases_view}
+use Rattle.phrase_checker.specs.declared.checker.Checker.{Checker}
+use Rattle.typed_phrases.specs.declared.making.Phrases.{Phrases}
+use Rattle.typed_phrases.specs.declared.making.Typed.{Typed}
+use Rattle.phrase_checker.proofs.Steps.{IsChecked, seen, seen_is, three_found, four_found}
+
+pub until_checked : {E : Type 0} (r : Result Typed E) (p f : Place) (s0 s1 s2 s3 : Checker) (ta tb tc : Typed) (a b c : Out) → Noted s0 s1 ta a → Noted s1 s2 tb b → Noted s2 s3 tc c
+    → IfOk r (λ t. Finds t (for_until_out p f (found_view ta) (found_view tb) (found_view tc))) → IsChecked r s0 s3 (for_until_out p f a b c)
+until_checked r p f s0 s1 s2 s3 ta tb tc a b c ha hb hc h =
+    IfOk-weaker r (λ (t : Typed). Finds t (for_until_out p f (found_view ta) (found_view tb) (found_view tc))) (λ (t : Typed). Checked s0 s3 t (for_until_out p f a b c))
+    (λ t g. three_found (for_until_out p f) (λ x y z. refl) s0 s1 s2 s3 ta tb tc t a b c ha hb hc g) h
+
+pub step_checked : {E : Type 0} (r : Result Typed E) (p f : Place) (s0 s1 s2 s3 s4 : Checker) (ta tb tc td : Typed) (a b c d : Out) → Noted s0 s1 ta a → Noted s1 s2 tb b → Noted s2 s3 tc c → Noted s3 s4 td d
+    → IfOk r (λ t. Finds t (for_step_out p f (found_view ta) (found_view tb) (found_view tc) (found_view td))) → IsChecked r s0 s4 (for_step_out p f a b c d)
+step_checked r p f s0 s1 s2 s3 s4 ta tb tc td a b c d ha hb hc hd h =
+    IfOk-weaker r (λ (t : Typed). Finds t (for_step_out p f (found_view ta) (found_view tb) (found_view tc) (found_view td))) (λ (t : Typed). Checked s0 s4 t (for_step_out p f a b c d))
+    (λ t g. four_found (for_step_out p f) (λ w x y z. refl) s0 s1 s2 s3 s4 ta tb tc td t a b c d ha hb hc hd g) h
+
+abbrev at_outs : List Diagnostic → List (Option Gives) → typed.Nodes → PhrasesOut
+at_outs inside gs ns = record { inside = inside; gives = gs; nodes = ns }
+
+list_found : (p f : Place) (s0 s1 s2 : Checker) (fs : Phrases) (tb t : Typed) (os : PhrasesOut) (b : Out) → PhrasesChecked s0 s1 fs os → Noted s1 s2 tb b → Finds t (for_list_out p f (phrases_view fs) (found_view tb)) → Checked s0 s2 t (for_list_out p f os b)
+list_found p f s0 s1 s2 fs tb t os b hs hb h =
+    let outs : at_outs os.inside (phrases_view fs).gives (phrases_view fs).nodes ≡ os = ap (λ gs. at_outs os.inside gs (phrases_view fs).nodes) hs.gives ∙ ap (at_outs os.inside os.gives) hs.nodes in
+    let whole : for_list_out p f (at_outs os.inside (phrases_view fs).gives (phrases_view fs).nodes) (seen b tb) ≡ for_list_out p f os b =
+    ap (λ (x : PhrasesOut). for_list_out p f x (seen b tb)) outs ∙ ap (for_list_out p f os) (seen_is s1 s2 tb b hb) in
+    record {
+      faults = hb.faults ∙ ap (λ xs. xs ++ faults b) hs.faults ∙ append_assoc s0.faults.items os.inside (faults b);
+      verdict = h.verdict ∙ ap (λ (o : Out). o.verdict) whole;
+      node = h.node ∙ ap (λ (o : Out). o.node) whole;
+    }
+
+pub list_checked : {E : Type 0} (r : Result Typed E) (p f : Place) (s0 s1 s2 : Checker) (fs : Phrases) (tb : Typed) (os : PhrasesOut) (b : Out) → PhrasesChecked s0 s1 fs os → Noted s1 s2 tb b
+    → IfOk r (λ t. Finds t (for_list_out p f (phrases_view fs) (found_view tb))) → IsChecked r s0 s2 (for_list_out p f os b)
+list_checked r p f s0 s1 s2 fs tb os b hs hb h =
+    IfOk-weaker r (λ (t : Typed). Finds t (for_list_out p f (phrases_view fs) (found_view tb))) (λ (t : Typed). Checked s0 s2 t (for_list_out p f os b)) (λ t g. list_found p f s0 s1 s2 fs tb t os b hs hb g) h

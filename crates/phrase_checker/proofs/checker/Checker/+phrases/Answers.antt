@@ -1,0 +1,225 @@
+use Rattle.std.proofs.Common.{◌≡◌, ◌+◌, ◌∷◌, ◌++◌, suc, Option, IfOk, length, map, refl, sym, ap, subst, ◌∙◌, rules}
+use Rattle.std.proofs.lemmas.Result.{IfOk-weaker}
+use Rattle.std.specs.Option.{option_map, option_to_list}
+use Rattle.algolw_tree.specs.declared.phrases.Phrase.{Phrase}
+use Rattle.algolw_tree.specs.declared.phrases.ProcDecl.{out-ProcDecl}
+use Rattle.algolw_tree.specs.Grammar.{phrases_of, links_of, lists_of, actuals_of, items_of, decls_of, bounds_of}
+use Rattle.algolw_tree.specs.Tree as tree
+use Rattle.algolw_tree.specs.View.{tree as tree_of, link_tree, list_tree, actual_tree, item_tree, decl_tree, bound_tree, formal_tree, procedure_tree, spec_tree}
+use Rattle.algolw_typing.specs.Names.{Scope}
+use Rattle.algolw_typing.specs.Scopes.{Known, formal_scope}
+use Rattle.algolw_typing.specs.Typing as rules_of
+use Rattle.algolw_typing.specs.Typing.{DeclOut, typed_bounds, typed_decl}
+use Rattle.typing_rules.specs.MeaningView.{reading, wanted}
+use Rattle.typing_rules.specs.View as view
+use Rattle.typed_drafts.specs.declared.drafts.DraftDecl.{DraftDecl}
+use Rattle.declared_names.specs.Blocks.{DeclFound, bounds_view}
+use Rattle.typed_phrases.specs.FrontViews.{front_view}
+use Rattle.declared_names.specs.KnownPaths.{path_view}
+use Rattle.declared_names.specs.declared.blocks.Bounds.{Bounds}
+use Rattle.typed_phrases.specs.declared.making.Typed.{Typed}
+use Rattle.phrase_checker.proofs.BlockFound.{block_found, procedure_found}
+use Rattle.phrase_checker.proofs.BlockSteps.{bounds_step, meanings_step, kept_step, decls_turn, decls_end, fewer, items_step, last_item}
+use Rattle.declared_names.proofs.Bounding.{array_found, bounds_kept, procedure_is}
+use Rattle.phrase_checker.proofs.ForSteps.{until_checked, step_checked, list_checked}
+use Rattle.phrase_checker.proofs.ListSteps as lists
+use Rattle.algolw_tree.proofs.Rows.{named_at, chain_at, case_value_at, case_do_at, for_list_at, block_at, actuals_at, array_at}
+use Rattle.algolw_tree.proofs.Sizes.{size, size_kind, size_phrases, size_links, size_lists, size_listing, size_actuals, size_actual, size_items, size_bounds, size_decls, size_decl, item_smaller}
+use Rattle.phrase_checker.proofs.Steps.{by_kind, if_else_checked, phrases_step, links_step}
+use Rattle.phrase_checker.proofs.checker.Checker.+phrases.Goals as goal
+
+pub conditional-returns-in_ok-phrase-in-Some : goal.conditional-returns-in_ok-phrase-in-Some
+conditional-returns-in_ok-phrase-in-Some t c =
+    if_else_checked c.if_else.result (path_view c.args.path.now) c.args.spot.place c.args.spot.first c.args.self.now c.phrase.new.self c.phrase-2.new.self c.phrase-in-Some.new.self c.in_ok-condition.condition c.in_ok-then.then c.in_ok-phrase-in-Some.field-0 (tree_of c.args.condition.now) (tree_of c.args.then.now) _ c.in-Some.otherwise c.deref.result.now c.in-Some.is c.deref.ensures
+    c.in_ok-condition.ensures c.in_ok-then.ensures c.in_ok-phrase-in-Some.ensures c.if_else.ensures
+
+pub inside-chain-requires : goal.inside-chain-requires
+inside-chain-requires t c = search (rules, ap size_kind (chain_at _ c.in-Chain.first c.in-Chain.links _ _ c.in-Chain.is c.deref-in-Chain.ensures c.deref-in-Chain-2.ensures.value))
+
+pub inside-returns-in-Chain : goal.inside-returns-in-Chain
+inside-returns-in-Chain t c = by_kind c.chain.result c.args.self.now c.chain.new.self (path_view c.args.path.now) c.args.phrase.now.place c.args.phrase.now.first _ _ (chain_at _ c.in-Chain.first c.in-Chain.links _ _ c.in-Chain.is c.deref-in-Chain.ensures c.deref-in-Chain-2.ensures.value) c.chain.ensures
+
+pub inside-case_value-requires : goal.inside-case_value-requires
+inside-case_value-requires t c = search (rules, ap size_kind (case_value_at _ c.in-CaseValue.subject c.in-CaseValue.values _ _ c.in-CaseValue.is c.deref-in-CaseValue.ensures c.deref-in-CaseValue-2.ensures.value))
+
+pub inside-returns-in-CaseValue : goal.inside-returns-in-CaseValue
+inside-returns-in-CaseValue t c = by_kind c.case_value.result c.args.self.now c.case_value.new.self (path_view c.args.path.now) c.args.phrase.now.place c.args.phrase.now.first _ _ (case_value_at _ c.in-CaseValue.subject c.in-CaseValue.values _ _ c.in-CaseValue.is c.deref-in-CaseValue.ensures c.deref-in-CaseValue-2.ensures.value) c.case_value.ensures
+
+pub inside-case_do-requires : goal.inside-case_do-requires
+inside-case_do-requires t c = search (rules, ap size_kind (case_do_at _ c.in-CaseDo.subject c.in-CaseDo.parts _ _ c.in-CaseDo.is c.deref-in-CaseDo.ensures c.deref-in-CaseDo-2.ensures.value))
+
+pub inside-returns-in-CaseDo : goal.inside-returns-in-CaseDo
+inside-returns-in-CaseDo t c = by_kind c.case_do.result c.args.self.now c.case_do.new.self (path_view c.args.path.now) c.args.phrase.now.place c.args.phrase.now.first _ _ (case_do_at _ c.in-CaseDo.subject c.in-CaseDo.parts _ _ c.in-CaseDo.is c.deref-in-CaseDo.ensures c.deref-in-CaseDo-2.ensures.value) c.case_do.ensures
+
+pub links-phrase-requires : goal.links-phrase-requires
+links-phrase-requires t c =
+    let h = item_smaller (λ xs. size_links (links_of (map link_tree xs))) (λ x. size (tree_of x.right)) (λ x xs. refl) c.args.links.now c.loop-link.link-index c.link-item.result c.loop-link-test.true c.link-item.is in
+    search rules
+
+pub links-loop-link-preserved : goal.links-loop-link-preserved
+links-loop-link-preserved t c =
+    links_step (path_view c.args.path.now) _ _ c.args.links.now c.loop-link.link-index c.link-item.result c.loop-link.self c.phrase.new.self c.loop-link.found c.add.new.self c.in_ok-right.right c.loop-link-test.true c.link-item.is c.in_ok-right.ensures c.in_ok-add.ensures.verdict c.in_ok-add.ensures.drafts c.loop-link.invariant
+
+pub phrases-phrase-requires : goal.phrases-phrase-requires
+phrases-phrase-requires t c =
+    let h = item_smaller (λ xs. size_phrases (phrases_of (map tree_of xs))) (λ x. size (tree_of x)) (λ x xs. refl) c.args.phrases.now c.loop-phrase.phrase-index c.phrase-item.result c.loop-phrase-test.true c.phrase-item.is in
+    search rules
+
+pub phrases-loop-phrase-preserved : goal.phrases-loop-phrase-preserved
+phrases-loop-phrase-preserved t c =
+    phrases_step (path_view c.args.path.now) _ _ c.args.phrases.now c.loop-phrase.phrase-index c.phrase-item.result c.loop-phrase.self c.phrase.new.self c.loop-phrase.found c.add.new.self c.in_ok-typed.typed c.loop-phrase-test.true c.phrase-item.is c.in_ok-typed.ensures c.in_ok-add.ensures.gives c.in_ok-add.ensures.drafts c.loop-phrase.invariant
+
+pub inside-named-requires : goal.inside-named-requires
+inside-named-requires t c = search (rules, ap size_kind (named_at _ c.in-Named.name c.in-Named.lists _ c.in-Named.is c.deref-in-Named.ensures.value))
+
+pub inside-returns-in-Named : goal.inside-returns-in-Named
+inside-returns-in-Named t c = by_kind c.named.result c.args.self.now c.named.new.self (path_view c.args.path.now) c.args.phrase.now.place c.args.phrase.now.first _ _ (named_at _ c.in-Named.name c.in-Named.lists _ c.in-Named.is c.deref-in-Named.ensures.value) c.named.ensures
+
+pub inside-for_list-requires : goal.inside-for_list-requires
+inside-for_list-requires t c = search (rules, ap size_kind (for_list_at _ c.in-ForList.name c.in-ForList.values c.in-ForList.body _ _ c.in-ForList.is c.deref-in-ForList.ensures.value c.deref-in-ForList-2.ensures))
+
+pub inside-returns-in-ForList : goal.inside-returns-in-ForList
+inside-returns-in-ForList t c = by_kind c.for_list.result c.args.self.now c.for_list.new.self (path_view c.args.path.now) c.args.phrase.now.place c.args.phrase.now.first _ _ (for_list_at _ c.in-ForList.name c.in-ForList.values c.in-ForList.body _ _ c.in-ForList.is c.deref-in-ForList.ensures.value c.deref-in-ForList-2.ensures) c.for_list.ensures
+
+pub inside-block-requires : goal.inside-block-requires
+inside-block-requires t c = search (rules, ap size_kind (block_at _ c.in-Block.decls c.in-Block.items _ _ c.in-Block.is c.deref-in-Block.ensures.value c.deref-in-Block-2.ensures.value))
+
+pub inside-returns-in-Block : goal.inside-returns-in-Block
+inside-returns-in-Block t c = by_kind c.block.result c.args.self.now c.block.new.self (path_view c.args.path.now) c.args.phrase.now.place c.args.phrase.now.first _ _ (block_at _ c.in-Block.decls c.in-Block.items _ _ c.in-Block.is c.deref-in-Block.ensures.value c.deref-in-Block-2.ensures.value) c.block.ensures
+
+pub named-list-requires : goal.named-list-requires
+named-list-requires t c =
+    let h = item_smaller (λ xs. size_lists (lists_of (map list_tree xs))) (λ x. size_listing (list_tree x)) (λ x xs. refl) c.args.lists.now c.loop-list.list-index c.list-item.result c.loop-list-test.true c.list-item.is in
+    search rules
+
+pub parts-actual-requires : goal.parts-actual-requires
+parts-actual-requires t c =
+    let h = item_smaller (λ xs. size_actuals (actuals_of (map actual_tree xs))) (λ x. size_actual (actual_tree x)) (λ x xs. refl) c.args.actuals.now c.loop-actual.actual-index c.actual-item.result c.loop-actual-test.true c.actual-item.is in
+    search rules
+
+pub meanings-decl_bounds-requires : goal.meanings-decl_bounds-requires
+meanings-decl_bounds-requires t c =
+    let h = item_smaller (λ xs. size_decls (decls_of (map decl_tree xs))) (λ x. size_decl (decl_tree x)) (λ x xs. refl) c.args.decls.now c.loop-decl.decl-index c.decl-item.result c.loop-decl-test.true c.decl-item.is in
+    search rules
+
+pub decls-decl-requires : goal.decls-decl-requires
+decls-decl-requires t c =
+    let h = item_smaller (λ xs. size_decls (decls_of (map decl_tree xs))) (λ x. size_decl (decl_tree x)) (λ x xs. refl) c.args.decls.now c.loop-decl.decl-index c.decl-item.result c.loop-decl-test.true c.decl-item.is in
+    search rules
+
+pub bounds-bound-requires : goal.bounds-bound-requires
+bounds-bound-requires t c =
+    let h = item_smaller (λ xs. size_bounds (bounds_of (map bound_tree xs))) (λ x. suc (size (tree_of x.lower) + size (tree_of x.upper))) (λ x xs. refl) c.args.bounds.now c.loop-bound.bound-index c.bound-item.result c.loop-bound-test.true c.bound-item.is in
+    search rules
+
+pub items-item-requires : goal.items-item-requires
+items-item-requires t c =
+    let h = item_smaller (λ xs. size_items (items_of (map item_tree xs))) (λ x. size (tree_of x.phrase)) (λ x xs. refl) c.args.items.now c.loop-position.position c.index-items-position.result c.loop-position-test.true c.index-items-position.is in
+    search rules
+
+pub for_until-returns : goal.for_until-returns
+for_until-returns t c =
+    until_checked c.for_until.result c.args.spot.place c.args.spot.first c.args.self.now c.phrase.new.self c.phrase-2.new.self c.controlled.new.self c.in_ok-start.start c.in_ok-limit.limit c.in_ok-body.body _ _ _ c.in_ok-start.ensures c.in_ok-limit.ensures c.in_ok-body.ensures c.for_until.ensures
+
+pub for_step-returns : goal.for_step-returns
+for_step-returns t c =
+    step_checked c.for_step.result c.args.spot.place c.args.spot.first c.args.self.now c.phrase.new.self c.phrase-2.new.self c.phrase-3.new.self c.controlled.new.self c.in_ok-start.start c.in_ok-step.step c.in_ok-limit.limit c.in_ok-body.body _ _ _ _ c.in_ok-start.ensures c.in_ok-step.ensures c.in_ok-limit.ensures c.in_ok-body.ensures c.for_step.ensures
+
+pub for_list-returns : goal.for_list-returns
+for_list-returns t c = list_checked c.for_list.result c.args.spot.place c.args.spot.first c.args.self.now c.phrases.new.self c.controlled.new.self c.in_ok-values.values c.in_ok-body.body _ _ c.in_ok-values.ensures c.in_ok-body.ensures c.for_list.ensures
+
+pub named-loop-list-preserved : goal.named-loop-list-preserved
+named-loop-list-preserved t c =
+    lists.lists_step (path_view c.args.path.now) _ _ c.args.lists.now c.loop-list.list-index c.list-item.result c.args.name.now c.loop-list.self c.list.new.self c.loop-list.found c.list.new.found c.loop-list-test.true c.list-item.is (c.in_ok-list.ensures c.args.name.now) c.loop-list.invariant
+
+pub named-returns : goal.named-returns
+named-returns t c =
+    IfOk-weaker c.named.result _ _
+    (λ (u : Typed) h. lists.named_found (path_view c.args.path.now) c.args.spot.place c.args.spot.first c.args.name.now c.args.lists.now c.loop-list.list-index c.args.self.now c.loop-list.self _ c.loop-list.found u c.loop-list-test.false c.declared-target.ensures c.loop-list.invariant (h c.args.name.now))
+    c.named.ensures
+
+pub list-parts-requires : goal.list-parts-requires
+list-parts-requires t c = search (rules, ap size_listing (actuals_at c.args.list.now.place _ c.in-Actuals.actuals _ c.in-Actuals.is c.deref.ensures.value))
+
+pub list-returns-in_ok-add_list-in-Actuals : goal.list-returns-in_ok-add_list-in-Actuals
+list-returns-in_ok-add_list-in-Actuals t c x =
+    lists.list_checked (path_view c.args.path.now) x (list_tree c.args.list.now) c.args.list.now.place _ (front_view x c.args.found.now.front) _ c.args.self.now c.parts.new.self c.in_ok-parts-in-Actuals.parts c.args.found.now c.add_list.new.self
+    (actuals_at c.args.list.now.place _ c.in-Actuals.actuals _ c.in-Actuals.is c.deref.ensures.value) refl (c.reading.ensures x) c.in_ok-parts-in-Actuals.ensures (c.in_ok-add_list-in-Actuals.ensures.front x) c.in_ok-add_list-in-Actuals.ensures.drafts
+
+pub parts-loop-actual-preserved : goal.parts-loop-actual-preserved
+parts-loop-actual-preserved t c =
+    lists.parts_step (path_view c.args.path.now) _ _ c.args.actuals.now c.loop-actual.actual-index c.actual-item.result (reading c.loop-actual.reading) (reading c.behind-reading.result) (wanted c.wanted.result) c.loop-actual.self c.actual.new.self c.loop-actual.found c.actual.new.found
+    c.loop-actual-test.true c.actual-item.is c.wanted.ensures c.behind-reading.ensures c.in_ok-actual.ensures c.loop-actual.invariant
+
+pub actual-returns-in_ok-add-in-Phrase : goal.actual-returns-in_ok-add-in-Phrase
+actual-returns-in_ok-add-in-Phrase t c =
+    lists.actual_checked (path_view c.args.path.now) (wanted c.args.wanted) (actual_tree c.args.actual.now) (tree_of c.in-Phrase.phrase) c.args.self.now c.inside.new.self c.note.new.self c.in_ok-typed-in-Phrase.typed c.in_ok-given-in-Phrase.given c.args.found.now c.add.new.self
+    (ap actual_tree c.in-Phrase.is) c.in_ok-typed-in-Phrase.ensures c.in_ok-given-in-Phrase.ensures c.in_ok-note-in-Phrase.ensures c.in_ok-add-in-Phrase.ensures.parts c.in_ok-add-in-Phrase.ensures.drafts
+
+pub block-returns : goal.block-returns
+block-returns t c =
+    let path = path_view c.args.path.now in
+    let decls = decls_of (map decl_tree c.args.decls.now) in
+    block_found path c.args.spot.place c.args.spot.first c.args.self.now c.meanings.new.self c.decls.new.self c.items.new.self c.twice.new.faults.items c.in_ok-names.names c.meanings.new.scope c.declare_labels.new.scope decls (items_of (map item_tree c.args.items.now)) c.in_ok-decls.decls c.in_ok-items.items c.block.result
+    c.in_ok-names.ensures c.in_ok-twice.ensures c.in_ok-bounds.ensures.faults (c.in_ok-bounds.ensures.scope ∙ ap (λ (s : Scope Known). s ++ rules_of.meanings path (c.in_ok-names.names ∷ path) decls) c.new-scope.ensures) c.in_ok-declare_labels.ensures
+    (c.in_ok-decls.ensures path c.in_ok-bounds.ensures.bounds) c.in_ok-items.ensures c.block.ensures
+
+pub meanings-loop-decl-preserved : goal.meanings-loop-decl-preserved
+meanings-loop-decl-preserved t c = (
+  c.in_ok-bounds.ensures.faults ∙ c.loop-decl.invariant.0,
+  meanings_step (path_view c.args.path.now) (path_view c.args.names.now) _ c.args.decls.now c.loop-decl.decl-index c.decl-item.result c.loop-decl.scope c.declare.new.scope c.loop-decl-test.true c.decl-item.is (c.in_ok-declare.ensures (path_view c.args.path.now) c.in_ok-bounds.ensures.bounds) c.loop-decl.invariant.1,
+  kept_step (path_view c.args.path.now) _ c.args.decls.now c.loop-decl.decl-index c.decl-item.result c.loop-decl.found.items c.push.new.self.items c.in_ok-bounds.bounds c.loop-decl-test.true c.decl-item.is c.in_ok-push.ensures.items c.in_ok-bounds.ensures.bounds c.loop-decl.invariant.2,
+)
+
+pub decl_bounds-bounds-requires : goal.decl_bounds-bounds-requires
+decl_bounds-bounds-requires t c = search (rules, ap size_decl (array_at c.args.decl.now _ _ c.in-Array.bounds _ c.in-Array.is c.deref.ensures.value))
+
+pub decl_bounds-returns-clause-bounds : goal.decl_bounds-returns-clause-bounds
+decl_bounds-returns-clause-bounds t c =
+    let found = typed_bounds (path_view c.args.path.now) (bounds_of (map bound_tree c.deref.result.now)) in
+    let faults : c.replace-faults.result.items ≡ found.inside = search rules in
+    bounds_kept (path_view c.args.path.now) c.args.decl.now c.in-Array.field-0 c.in-Array.field-1 c.in-Array.bounds c.deref.result.now (record { faults = c.replace-faults.result; drafts = c.in_ok-drafts.drafts }) c.in-Array.is c.deref.ensures.value faults c.in_ok-drafts.ensures.bounds
+
+pub bounds-loop-bound-preserved : goal.bounds-loop-bound-preserved
+bounds-loop-bound-preserved t c =
+    bounds_step (path_view c.args.path.now) _ _ c.args.bounds.now c.loop-bound.bound-index c.bound-item.result c.loop-bound.self c.bound.new.self c.loop-bound.found.items c.push.new.self.items c.in_ok-bound.field-0 c.loop-bound-test.true c.bound-item.is c.in_ok-bound.ensures c.in_ok-push.ensures.items c.loop-bound.invariant
+
+pub decls-loop-decl-preserved : goal.decls-loop-decl-preserved
+decls-loop-decl-preserved t c =
+    let own = c.unwrap-own.result in
+    let kept = c.next.new.self.rest.items in
+    let first : c.loop-decl.bounds.rest.items ≡ own ∷ kept = c.next.ensures.items ∙ ap (λ (o : Option Bounds). option_to_list o ++ kept) c.unwrap-own.ensures in (
+      fewer c.args.decls.now c.loop-decl.decl-index c.decl-item.result c.loop-decl.bounds.rest.items kept own c.loop-decl-test.true c.decl-item.is first c.loop-decl.invariant.0,
+      λ around found. decls_turn around (path_view c.args.path.now) _ _ c.args.decls.now c.loop-decl.decl-index c.decl-item.result c.loop-decl.self.faults.items c.decl.new.self.faults.items c.loop-decl.found.items c.push.new.self.items c.in_ok-decl.field-0 c.loop-decl.bounds.rest.items kept own
+          c.loop-decl-test.true c.decl-item.is first (c.in_ok-decl.ensures around) c.in_ok-push.ensures.items (c.loop-decl.invariant.1 around found),
+    )
+
+pub decls-returns : goal.decls-returns
+decls-returns t c around found =
+    let all : c.into_iter-bounds.result.rest.items ≡ c.args.bounds.items = search rules in
+    decls_end around (path_view c.args.path.now) c.args.decls.now c.loop-decl.decl-index c.args.self.now c.loop-decl.self c.loop-decl.found c.loop-decl-test.false (c.loop-decl.invariant.1 around (ap (map bounds_view) all ∙ found)).1
+
+pub decl-returns-in-Array : goal.decl-returns-in-Array
+decl-returns-in-Array t c around found =
+    let count : c.len.result ≡ length c.in-Array.sizes.items = search rules in
+    subst (λ (o : DeclOut). IfOk c.array.result (λ d. DeclFound c.args.self.now.faults.items c.array.new.faults.items d o))
+    (array_found around (path_view c.args.path.now) c.args.decl.now c.in-Array.spec c.in-Array.names c.in-Array.sizes c.len.result (bounds_view c.args.bounds) c.in-Array.is count found) c.array.ensures
+
+pub procedure-returns : goal.procedure-returns
+procedure-returns t c around =
+    let path = path_view c.args.path.now in
+    let own = out-ProcDecl c.args.declared.now in
+    let spec = option_map spec_tree own.result in
+    let formals = c.deref.result.now in
+    let same : tree.Proc own.place spec own.name (map formal_tree formals) (tree_of c.deref-3.result.now) ≡ procedure_tree c.args.declared.now =
+    ap (λ fs. tree.Proc own.place spec own.name (map formal_tree fs) (tree_of c.deref-3.result.now)) c.deref.ensures.value ∙ ap (λ (b : Phrase). tree.Proc own.place spec own.name (map formal_tree own.formals.items) (tree_of b)) c.deref-3.ensures ∙ sym (procedure_is c.args.declared.now) in
+    IfOk-weaker c.procedure.result _ _
+    (λ (d : DraftDecl) h. subst (λ (z : tree.Decl). DeclFound c.args.self.now.faults.items c.note.new.self.faults.items d (typed_decl around path z)) same
+    (procedure_found around path own.place spec own.name (map formal_tree formals) (tree_of c.deref-3.result.now) c.args.self.now.faults.items c.read_head.new.faults.items c.twice.new.faults.items c.note.new.self.faults.items _ c.phrase.new.self c.in_ok-formals.formals c.in_ok-head.head c.in_ok-body.body (view.verdict c.procedure_verdict.result) d
+    c.in_ok-head.ensures.faults c.in_ok-head.ensures.head (c.in_ok-formals.ensures ∙ ap (λ fs. formal_scope path (map formal_tree fs)) (c.deref-2.ensures.value ∙ sym c.deref.ensures.value)) c.in_ok-twice.ensures refl c.in_ok-body.ensures c.procedure_verdict.ensures c.in_ok-note.ensures h))
+    c.procedure.ensures
+
+pub items-loop-position-preserved : goal.items-loop-position-preserved
+items-loop-position-preserved t c =
+    items_step (path_view c.args.path.now) _ _ c.args.items.now c.loop-position.position c.index-items-position.result _ c.loop-position.self c.item.new.self c.loop-position.found c.item.new.found c.loop-position-test.true c.index-items-position.is
+    (last_item c.args.items.now c.loop-position.position _ c.loop-position-test.true refl) c.in_ok-item.ensures c.loop-position.invariant

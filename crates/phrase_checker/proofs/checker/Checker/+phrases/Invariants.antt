@@ -1,0 +1,152 @@
+use Rattle.std.proofs.Common.{◌≡◌, suc, ◌+◌, ◌*◌, ◌++◌, length, map, drop}
+use Rattle.algolw_tree.specs.Grammar.{phrases_of, links_of, lists_of, actuals_of, items_of, decls_of, bounds_of}
+use Rattle.algolw_tree.specs.View.{tree, link_tree, list_tree, actual_tree, item_tree, decl_tree, bound_tree, procedure_tree}
+use Rattle.algolw_typing.specs.Names.{declared}
+use Rattle.algolw_typing.specs.Scopes.{Scopes}
+use Rattle.algolw_typing.specs.Types.{Statement}
+use Rattle.algolw_typing.specs.Typing as rules
+use Rattle.algolw_typing.specs.Typing.{typed_phrases, typed_links, typed_parts, typed_items, typed_bounds, typed_decls, first_list}
+use Rattle.algolw_typing.specs.Verdicts.{Good}
+use Rattle.typing_rules.specs.MeaningView.{part, reading}
+use Rattle.typing_rules.specs.View as view
+use Rattle.declared_names.specs.Blocks.{bounds_view, each_bounds}
+use Rattle.typed_phrases.specs.FoundParts.{given_view}
+use Rattle.typed_phrases.specs.Fronts.{front_lists}
+use Rattle.typed_phrases.specs.FrontViews.{front_view}
+use Rattle.typed_drafts.specs.DraftView.{draft_view, actual_view, decl_view}
+use Rattle.typed_drafts.specs.DraftParts.{link_view, list_view, item_view, bound_view}
+use Rattle.declared_names.specs.KnownPaths.{path_view}
+use Rattle.algolw_tree.specs.View.{optional_tree}
+use Rattle.phrase_checker.proofs.BlockSteps.{BoundsSoFar, DeclsSoFar, ItemsSoFar}
+use Rattle.phrase_checker.proofs.ListSteps.{ListsSoFar, PartsSoFar}
+use Rattle.algolw_tree.proofs.Sizes.{size, size_perhaps, size_phrases, size_links, size_lists, size_listing, size_actuals, size_actual, size_items, size_bounds, size_decls, size_decl}
+use Rattle.phrase_checker.proofs.Turns.{PhrasesSoFar, LinksSoFar}
+use Rattle.phrase_checker.proofs.checker.Checker.+phrases.Given as goal
+
+abbrev pub decreases-phrase : goal.decreases-phrase
+decreases-phrase l = suc (2 * size (tree l.phrase.now))
+
+abbrev pub decreases-inside : goal.decreases-inside
+decreases-inside l = 2 * size (tree l.phrase.now)
+
+abbrev pub decreases-relation : goal.decreases-relation
+decreases-relation l = 2 * suc (size (tree l.left.now) + size (tree l.right.now))
+
+abbrev pub decreases-while_do : goal.decreases-while_do
+decreases-while_do l = 2 * suc (size (tree l.condition.now) + size (tree l.body.now))
+
+abbrev pub decreases-conditional : goal.decreases-conditional
+decreases-conditional l = 2 * suc (size (tree l.condition.now) + size (tree l.then.now) + size_perhaps (optional_tree l.otherwise.now))
+
+abbrev pub decreases-chain : goal.decreases-chain
+decreases-chain l = 2 * suc (size (tree l.first.now) + size_links (links_of (map link_tree l.links.now)))
+
+abbrev pub decreases-links : goal.decreases-links
+decreases-links l = 2 * size_links (links_of (map link_tree l.links.now))
+
+abbrev pub decreases-case_value : goal.decreases-case_value
+decreases-case_value l = 2 * suc (size (tree l.subject.now) + size_phrases (phrases_of (map tree l.values.now)))
+
+abbrev pub decreases-case_do : goal.decreases-case_do
+decreases-case_do l = 2 * suc (size (tree l.subject.now) + size_phrases (phrases_of (map tree l.parts.now)))
+
+abbrev pub decreases-phrases : goal.decreases-phrases
+decreases-phrases l = 2 * size_phrases (phrases_of (map tree l.phrases.now))
+
+abbrev pub invariant-phrases-loop-phrase : goal.invariant-phrases-loop-phrase
+invariant-phrases-loop-phrase l = PhrasesSoFar l.initial.self.faults.items l.self.faults.items (map given_view l.found.gives.items) (map draft_view l.found.drafts.items) (typed_phrases (path_view l.path) (phrases_of (map tree l.phrases))) (typed_phrases (path_view l.path) (phrases_of (map tree (drop l.phrase-index l.phrases))))
+
+abbrev pub invariant-links-loop-link : goal.invariant-links-loop-link
+invariant-links-loop-link l = LinksSoFar l.initial.self.faults.items l.self.faults.items (map link_view l.found.drafts.items) (typed_links (path_view l.path) (view.verdict l.initial.found.verdict) (links_of (map link_tree l.links))) (typed_links (path_view l.path) (view.verdict l.found.verdict) (links_of (map link_tree (drop l.link-index l.links))))
+
+abbrev pub decreases-is_class : goal.decreases-is_class
+decreases-is_class l = 2 * suc (size (tree l.operand.now))
+
+abbrev pub decreases-assign : goal.decreases-assign
+decreases-assign l = 2 * suc (size (tree l.target.now) + size (tree l.value.now))
+
+abbrev pub decreases-controlled : goal.decreases-controlled
+decreases-controlled l = 2 * suc (size (tree l.body.now))
+
+abbrev pub decreases-for_until : goal.decreases-for_until
+decreases-for_until l = 2 * suc (size (tree l.start.now) + 1 + size (tree l.limit.now) + size (tree l.body.now))
+
+abbrev pub decreases-for_step : goal.decreases-for_step
+decreases-for_step l = 2 * suc (size (tree l.start.now) + suc (size (tree l.step.now)) + size (tree l.limit.now) + size (tree l.body.now))
+
+abbrev pub decreases-for_list : goal.decreases-for_list
+decreases-for_list l = suc (2 * suc (size_phrases (phrases_of (map tree l.values.now)) + size (tree l.body.now)))
+
+abbrev pub decreases-named : goal.decreases-named
+decreases-named l = 2 * suc (size_lists (lists_of (map list_tree l.lists.now)))
+
+abbrev pub decreases-list : goal.decreases-list
+decreases-list l = 2 * size_listing (list_tree l.list.now)
+
+abbrev pub decreases-parts : goal.decreases-parts
+decreases-parts l = 2 * size_actuals (actuals_of (map actual_tree l.actuals.now))
+
+abbrev pub decreases-actual : goal.decreases-actual
+decreases-actual l = 2 * size_actual (actual_tree l.actual.now)
+
+abbrev pub decreases-block : goal.decreases-block
+decreases-block l = 2 * suc (suc (size_decls (decls_of (map decl_tree l.decls.now)) + size_items (items_of (map item_tree l.items.now))))
+
+abbrev pub decreases-meanings : goal.decreases-meanings
+decreases-meanings l = 2 * size_decls (decls_of (map decl_tree l.decls.now))
+
+abbrev pub decreases-decl_bounds : goal.decreases-decl_bounds
+decreases-decl_bounds l = suc (2 * size_decl (decl_tree l.decl.now))
+
+abbrev pub decreases-bounds : goal.decreases-bounds
+decreases-bounds l = 2 * size_bounds (bounds_of (map bound_tree l.bounds.now))
+
+abbrev pub decreases-bound : goal.decreases-bound
+decreases-bound l = 2 * suc (size (tree l.bound.now.lower) + size (tree l.bound.now.upper))
+
+abbrev pub decreases-decls : goal.decreases-decls
+decreases-decls l = 2 * size_decls (decls_of (map decl_tree l.decls.now))
+
+abbrev pub decreases-decl : goal.decreases-decl
+decreases-decl l = suc (2 * size_decl (decl_tree l.decl.now))
+
+abbrev pub decreases-procedure : goal.decreases-procedure
+decreases-procedure l = 2 * size_decl (procedure_tree l.declared.now)
+
+abbrev pub decreases-items : goal.decreases-items
+decreases-items l = suc (2 * size_items (items_of (map item_tree l.items.now)))
+
+abbrev pub decreases-item : goal.decreases-item
+decreases-item l = 2 * suc (size (tree l.item.now.phrase))
+
+abbrev pub invariant-named-loop-list : goal.invariant-named-loop-list
+invariant-named-loop-list l =
+    ListsSoFar l.initial.self.faults.items l.self.faults.items (map list_view l.found.drafts.items) (first_list (path_view l.path) l.spot.place (declared (path_view l.path) l.name) (lists_of (map list_tree l.lists)))
+    (front_lists (path_view l.path) (front_view l.name l.found.front) (lists_of (map list_tree (drop l.list-index l.lists))))
+
+abbrev pub invariant-parts-loop-actual : goal.invariant-parts-loop-actual
+invariant-parts-loop-actual l =
+    PartsSoFar l.initial.self.faults.items l.self.faults.items (map part l.found.parts.items) (map actual_view l.found.drafts.items) (typed_parts (path_view l.path) (reading l.initial.reading) (actuals_of (map actual_tree l.actuals)))
+    (typed_parts (path_view l.path) (reading l.reading) (actuals_of (map actual_tree (drop l.actual-index l.actuals))))
+
+-- what is declared, and the bounds that are found, with what is left are all
+abbrev pub invariant-meanings-loop-decl : goal.invariant-meanings-loop-decl
+invariant-meanings-loop-decl l =
+    (l.self.faults.items ≡ l.initial.self.faults.items)
+    × (l.scope ++ rules.meanings (path_view l.path) (path_view l.names) (decls_of (map decl_tree (drop l.decl-index l.decls))) ≡ l.initial.scope ++ rules.meanings (path_view l.path) (path_view l.names) (decls_of (map decl_tree l.decls)))
+    × (map bounds_view l.found.items ++ each_bounds (path_view l.path) (map decl_tree (drop l.decl-index l.decls)) ≡ each_bounds (path_view l.path) (map decl_tree l.decls))
+
+abbrev pub invariant-bounds-loop-bound : goal.invariant-bounds-loop-bound
+invariant-bounds-loop-bound l = BoundsSoFar l.initial.self.faults.items l.self.faults.items (map bound_view l.found.items) (typed_bounds (path_view l.path) (bounds_of (map bound_tree l.bounds))) (typed_bounds (path_view l.path) (bounds_of (map bound_tree (drop l.bound-index l.bounds))))
+
+abbrev pub invariant-decls-loop-decl : goal.invariant-decls-loop-decl
+invariant-decls-loop-decl l =
+    (length l.bounds.rest.items ≡ length (drop l.decl-index l.decls))
+    × ((around : Scopes) → map bounds_view l.initial.bounds.rest.items ≡ each_bounds around (map decl_tree l.decls)
+    → (map bounds_view l.bounds.rest.items ≡ each_bounds around (map decl_tree (drop l.decl-index l.decls)))
+    × DeclsSoFar l.initial.self.faults.items l.self.faults.items (map decl_view l.found.items) (typed_decls around (path_view l.path) (decls_of (map decl_tree l.decls))) (typed_decls around (path_view l.path) (decls_of (map decl_tree (drop l.decl-index l.decls)))))
+
+abbrev pub invariant-items-loop-position : goal.invariant-items-loop-position
+invariant-items-loop-position l =
+    ItemsSoFar l.initial.self.faults.items l.self.faults.items (map item_view l.found.drafts.items) (typed_items (path_view l.path) (Good Statement) (items_of (map item_tree l.items)))
+    (typed_items (path_view l.path) (view.verdict l.found.verdict) (items_of (map item_tree (drop l.position l.items))))

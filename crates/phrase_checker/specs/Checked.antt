@@ -1,0 +1,92 @@
+-- What checking a part of a program finds, and which faults it adds.
+use Rattle.std.specs.Prelude.{◌≡◌, ℕ, List, [], ◌∷◌, ◌++◌, map}
+use Rattle.std.specs.declared.vec.Vec.{Vec}
+use Rattle.std.specs.declared.alloc.Global.{Global}
+use Rattle.value_ops.specs.declared.places.Place.{Place}
+use Rattle.algolw_tree.specs.Tree.{Placed}
+use Rattle.algolw_typing.specs.Rows.{bound_row}
+use Rattle.algolw_typing.specs.Typed as typed
+use Rattle.algolw_typing.specs.Typing.{Out, faults, gives, PhrasesOut, LinksOut, PartsOut, BoundsOut, DeclsOut, ItemsOut, declare_at, then_item}
+use Rattle.algolw_typing.specs.Verdicts.{Verdict, fault_of, two_parts}
+use Rattle.typing_rules.specs.MeaningView.{part}
+use Rattle.typing_rules.specs.View as view
+use Rattle.typed_drafts.specs.DraftView.{draft_view, actual_view}
+use Rattle.typed_drafts.specs.DraftParts.{list_view, item_view, bound_view}
+use Rattle.typed_drafts.specs.Onto.{bounds_onto}
+use Rattle.typed_drafts.specs.declared.drafts.DraftBound.{DraftBound}
+use Rattle.typed_drafts.specs.declared.drafts.DraftDecl.{DraftDecl}
+use Rattle.typed_phrases.specs.Items.{decls_view, items_view}
+use Rattle.typed_phrases.specs.Fronts.{complete, ListOut, ActualOut}
+use Rattle.typed_phrases.specs.FrontViews.{front_view, parts_view}
+use Rattle.typed_phrases.specs.declared.actuals.Parts.{Parts}
+use Rattle.typed_phrases.specs.declared.designators.Lists.{Lists}
+use Rattle.typed_phrases.specs.declared.items.Items.{Items}
+use Rattle.phrase_checker.specs.declared.checker.Checker.{Checker}
+use Rattle.typed_phrases.specs.declared.making.Typed.{Typed}
+use Rattle.typed_phrases.specs.declared.making.Phrases.{Phrases}
+use Rattle.typed_phrases.specs.declared.making.Links.{Links}
+use Rattle.typed_phrases.specs.FoundParts.{phrases_view, links_view}
+
+-- the faults inside a phrase are added
+pub record Checked (old new : Checker) (t : Typed) (o : Out) : Type 0 where
+  pub faults : new.faults.items ≡ old.faults.items ++ o.inside
+  pub verdict : view.verdict t.verdict ≡ o.verdict
+  pub node : draft_view t.draft ≡ o.node
+
+-- and its own
+pub record Noted (old new : Checker) (t : Typed) (o : Out) : Type 0 where
+  pub faults : new.faults.items ≡ old.faults.items ++ faults o
+  pub verdict : view.verdict t.verdict ≡ o.verdict
+  pub node : draft_view t.draft ≡ o.node
+
+pub record PhrasesChecked (old new : Checker) (f : Phrases) (o : PhrasesOut) : Type 0 where
+  pub faults : new.faults.items ≡ old.faults.items ++ o.inside
+  pub gives : (phrases_view f).gives ≡ o.gives
+  pub nodes : (phrases_view f).nodes ≡ o.nodes
+
+pub record LinksChecked (old new : Checker) (f : Links) (o : LinksOut) : Type 0 where
+  pub faults : new.faults.items ≡ old.faults.items ++ o.inside
+  pub verdict : (links_view f).verdict ≡ o.verdict
+  pub links : (links_view f).links ≡ o.links
+
+-- one of the lists behind a name
+pub record ListChecked (x : List ℕ) (old new : Checker) (before after : Lists) (o : ListOut) : Type 0 where
+  pub faults : new.faults.items ≡ old.faults.items ++ o.inside
+  pub front : front_view x after.front ≡ complete o.verdict
+  pub drafts : map list_view after.drafts.items ≡ map list_view before.drafts.items ++ o.listing ∷ []
+
+-- one part of a list, and all of them
+pub record ActualChecked (old new : Checker) (before after : Parts) (o : ActualOut) : Type 0 where
+  pub faults : new.faults.items ≡ old.faults.items ++ o.inside
+  pub parts : map part after.parts.items ≡ map part before.parts.items ++ o.part ∷ []
+  pub drafts : map actual_view after.drafts.items ≡ map actual_view before.drafts.items ++ o.actual ∷ []
+
+pub record PartsChecked (old new : Checker) (f : Parts) (o : PartsOut) : Type 0 where
+  pub faults : new.faults.items ≡ old.faults.items ++ o.inside
+  pub parts : (parts_view f).parts ≡ o.parts
+  pub actuals : (parts_view f).actuals ≡ o.actuals
+
+-- bounds, of one dimension and of all
+pub record BoundChecked (old new : Checker) (b : DraftBound) (p : Place) (lower upper : Out) : Type 0 where
+  pub faults : new.faults.items ≡ old.faults.items ++ faults lower ++ faults upper ++ fault_of (two_parts (gives lower) (gives upper) (bound_row p))
+  pub bound : bound_view b ≡ typed.Between p lower.node upper.node
+
+pub record BoundsChecked (old new : Checker) (bs : Vec DraftBound Global) (o : BoundsOut) : Type 0 where
+  pub faults : new.faults.items ≡ old.faults.items ++ o.inside
+  pub bounds : bounds_onto (map bound_view bs.items) typed.no_bounds ≡ o.bounds
+
+-- declarations
+pub record DeclsChecked (old new : Checker) (ds : Vec DraftDecl Global) (o : DeclsOut) : Type 0 where
+  pub faults : new.faults.items ≡ old.faults.items ++ o.inside
+  pub decls : decls_view ds.items ≡ o.decls
+
+-- an item with a verdict, and all items
+pub record ItemChecked (old new : Checker) (before after : Items) (labels : List Placed) (o : Out) (v : Verdict) : Type 0 where
+  pub faults : new.faults.items ≡ old.faults.items ++ faults o ++ fault_of v
+  pub verdict : view.verdict after.verdict ≡ then_item (view.verdict before.verdict) v
+  pub drafts : map item_view after.drafts.items ≡ map item_view before.drafts.items ++ typed.Labelled (declare_at labels) o.node ∷ []
+
+pub record ItemsChecked (old new : Checker) (f : Items) (o : ItemsOut) : Type 0 where
+  pub faults : new.faults.items ≡ old.faults.items ++ o.inside
+  pub verdict : (items_view f).verdict ≡ o.verdict
+  pub items : (items_view f).items ≡ o.items

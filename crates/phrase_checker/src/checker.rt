@@ -1,0 +1,702 @@
+ghost use Rattle.std.specs.Prelude as std;
+ghost use Rattle.std.specs.Prelude.{◌≡◌, ℕ, ◌∷◌, ◌++◌, IfOk, OnOk, length, map};
+ghost use Rattle.algolw_tree.specs.Grammar.{actuals_of, bounds_of, decls_of, items_of, links_of, lists_of, phrases_of};
+ghost use Rattle.algolw_tree.specs.Tree as kinds;
+ghost use Rattle.algolw_tree.specs.View.{actual_tree, bound_tree, decl_tree, item_tree, link_tree, list_tree, procedure_tree, tree};
+ghost use Rattle.algolw_typing.specs.Scopes as scopes;
+ghost use Rattle.algolw_typing.specs.Scopes.{Scopes};
+ghost use Rattle.algolw_typing.specs.Types.{Statement};
+ghost use Rattle.algolw_typing.specs.Typing as rules;
+ghost use Rattle.algolw_typing.specs.Typing.{typed_bounds, typed_decl, typed_decls, typed_items, typed_kind, typed_links, typed_parts, typed_phrase, typed_phrases};
+ghost use Rattle.algolw_typing.specs.Faults.{faults_found, typed_program};
+ghost use Rattle.algolw_typing.specs.Rows as rows;
+ghost use Rattle.algolw_typing.specs.Verdicts.{Good, fault_of, part, type_of};
+ghost use Rattle.typed_drafts.specs.DraftView.{draft_view};
+ghost use Rattle.typing_rules.specs.MeaningView as meaning_view;
+ghost use Rattle.typing_rules.specs.View as view;
+ghost use Rattle.declared_names.specs.Blocks.{DeclFound, bounds_view, decl_bounds, each_bounds};
+ghost use Rattle.typed_phrases.specs.Items.{item_end};
+ghost use Rattle.phrase_checker.specs.Checked.{ActualChecked, BoundChecked, BoundsChecked, Checked, DeclsChecked, ItemChecked, ItemsChecked, LinksChecked, ListChecked, Noted, PartsChecked, PhrasesChecked};
+ghost use Rattle.typed_phrases.specs.FrontViews.{front_view};
+ghost use Rattle.typed_phrases.specs.Fronts.{actual_step, list_step};
+ghost use Rattle.declared_names.specs.KnownPaths.{path_view};
+ghost use Rattle.algolw_tree.specs.View.{optional_tree};
+
+use algolw_tree::{Actual, Bound, Decl, Item, Kind, Link, List, ListKind, Phrase, ProcDecl, RelOp};
+use bumpalo::Bump;
+use declared_names::{
+    Bounds, KnownPath, KnownScope, array, bound_verdict, class, class_fault, declare,
+    declare_labels, formal_scope, names_of_block, no_bounds, procedure, procedure_verdict,
+    read_head, simple, standard_scope, twice,
+};
+use std::alloc::{AllocError, Global};
+use typed_drafts::{Draft, DraftBound, DraftDecl, DraftKind};
+use typed_phrases::{
+    Front, Items, Links, Lists, Parts, Phrases, Spot, Typed, absolute, asserted, assigned, block,
+    case_do, case_value, chained, control_scope, empty, for_list, for_step, for_until, if_else,
+    if_then, is_class, item_verdict, jump, leaf, left_of, named, negated, noted, quoted, read,
+    relation, signed, while_do,
+};
+use typing_rules::{ClassSet, NoType, Reading, ValueType, Verdict, Wanted, program_row};
+use value_ops::{Diagnostic, Name, Place};
+
+/// Checks the phrases of a program.
+#[derive(Drop)]
+struct Checker<'a> {
+    alloc: Global,
+    arena: &'a Bump,
+    /// The faults that were found, in the order of the rules.
+    faults: Vec<Diagnostic>,
+}
+
+impl<'a> Checker<'a> {
+    /// Adds the fault of a verdict.
+    fn note(&mut self, verdict: Verdict) -> Result<(), AllocError>
+        ensures { OnOk result (self.new.faults.items ≡ self.old.faults.items ++ fault_of (view.verdict verdict.entry)) }
+    {
+        if let Err(NoType::Fault(fault)) = verdict {
+            self.faults.push(fault)?;
+        }
+        Ok(())
+    }
+
+    /// Checks a phrase, and adds its faults.
+    #[cycle(phrases)]
+    fn phrase(&mut self, path: &KnownPath<'_, 'a>, phrase: &Phrase) -> Result<Typed<'a>, AllocError>
+        ensures { IfOk result (λ t. Noted self.old self.new t (typed_phrase (path_view path.now) (tree phrase.now))) }
+    {
+        let typed = self.inside(path, phrase)?;
+        self.note(typed.verdict)?;
+        Ok(typed)
+    }
+
+    /// Checks a phrase, and adds the faults inside it.
+    #[cycle(phrases)]
+    fn inside(&mut self, path: &KnownPath<'_, 'a>, phrase: &Phrase) -> Result<Typed<'a>, AllocError>
+        ensures { IfOk result (λ t. Checked self.old self.new t (typed_phrase (path_view path.now) (tree phrase.now))) }
+    {
+        let spot = Spot {
+            alloc: self.alloc,
+            arena: self.arena,
+            place: phrase.place,
+            first: phrase.first,
+        };
+        match &phrase.kind {
+            Kind::Empty => Ok(empty(spot)),
+            Kind::Null => {
+                let to_none = ValueType::Reference(ClassSet::none());
+                Ok(leaf(spot, to_none, DraftKind::Null))
+            }
+            Kind::Number(number) => Ok(leaf(spot, ValueType::Integer, DraftKind::Number(*number))),
+            Kind::Truth(truth) => Ok(leaf(spot, ValueType::Logical, DraftKind::Truth(*truth))),
+            Kind::BitsLit(bits) => Ok(leaf(spot, ValueType::Bits, DraftKind::BitsLit(*bits))),
+            Kind::Negated(operand) => negated(spot, self.phrase(path, operand)?),
+            Kind::Abs(operand) => absolute(spot, self.phrase(path, operand)?),
+            Kind::Signed(minus, operand) => signed(spot, *minus, self.phrase(path, operand)?),
+            Kind::Chain(first, links) => self.chain(path, spot, first, links),
+            Kind::Relation(op, left, right) => self.relation(path, spot, *op, left, right),
+            Kind::IfThen(condition, then, otherwise) => {
+                self.conditional(path, spot, condition, then, otherwise)
+            }
+            Kind::CaseValue(subject, values) => self.case_value(path, spot, subject, values),
+            Kind::CaseDo(subject, parts) => self.case_do(path, spot, subject, parts),
+            Kind::WhileDo(condition, body) => self.while_do(path, spot, condition, body),
+            Kind::Assert(condition) => asserted(spot, self.phrase(path, condition)?),
+            Kind::Quoted(text) => Ok(quoted(spot, *text)),
+            Kind::Goto(name) => Ok(jump(spot, path, name)),
+            Kind::IsClass(operand, name, place) => {
+                self.is_class(path, spot, operand, name, *place)
+            }
+            Kind::Assign(target, value) => self.assign(path, spot, target, value),
+            Kind::ForStep(name, start, None, limit, body) => {
+                self.for_until(path, spot, name, start, limit, body)
+            }
+            Kind::ForStep(name, start, Some(step), limit, body) => {
+                self.for_step(path, spot, name, start, step, limit, body)
+            }
+            Kind::ForList(name, values, body) => self.for_list(path, spot, name, values, body),
+            Kind::Named(name, lists) => self.named(path, spot, name, lists),
+            Kind::Block(decls, items) => self.block(path, spot, decls, items),
+        }
+    }
+
+    /// Checks a comparison.
+    #[cycle(phrases)]
+    fn relation(
+        &mut self,
+        path: &KnownPath<'_, 'a>,
+        spot: Spot<'a>,
+        op: RelOp,
+        left: &Phrase,
+        right: &Phrase,
+    ) -> Result<Typed<'a>, AllocError>
+        ensures { IfOk result (λ t. Checked self.old self.new t (typed_kind (path_view path.now) spot.entry.place spot.entry.first (kinds.Relation op (tree left.now) (tree right.now)))) }
+    {
+        let left = self.phrase(path, left)?;
+        let right = self.phrase(path, right)?;
+        relation(spot, op, left, right)
+    }
+
+    /// Checks a WHILE.
+    #[cycle(phrases)]
+    fn while_do(
+        &mut self,
+        path: &KnownPath<'_, 'a>,
+        spot: Spot<'a>,
+        condition: &Phrase,
+        body: &Phrase,
+    ) -> Result<Typed<'a>, AllocError>
+        ensures { IfOk result (λ t. Checked self.old self.new t (typed_kind (path_view path.now) spot.entry.place spot.entry.first (kinds.WhileDo (tree condition.now) (tree body.now)))) }
+    {
+        let condition = self.phrase(path, condition)?;
+        let body = self.phrase(path, body)?;
+        while_do(spot, condition, body)
+    }
+
+    /// Checks an IF.
+    #[cycle(phrases)]
+    fn conditional(
+        &mut self,
+        path: &KnownPath<'_, 'a>,
+        spot: Spot<'a>,
+        condition: &Phrase,
+        then: &Phrase,
+        otherwise: &Option<Box<Phrase>>,
+    ) -> Result<Typed<'a>, AllocError>
+        ensures { IfOk result (λ t. Checked self.old self.new t (typed_kind (path_view path.now) spot.entry.place spot.entry.first (kinds.IfThen (tree condition.now) (tree then.now) (optional_tree otherwise.now)))) }
+    {
+        let condition = self.phrase(path, condition)?;
+        let then = self.phrase(path, then)?;
+        match otherwise {
+            None => if_then(spot, condition, then),
+            Some(otherwise) => if_else(spot, condition, then, self.phrase(path, otherwise)?),
+        }
+    }
+
+    /// Checks a chain.
+    #[cycle(phrases)]
+    fn chain(
+        &mut self,
+        path: &KnownPath<'_, 'a>,
+        spot: Spot<'a>,
+        first: &Phrase,
+        links: &[Link],
+    ) -> Result<Typed<'a>, AllocError>
+        ensures { IfOk result (λ t. Checked self.old self.new t (typed_kind (path_view path.now) spot.entry.place spot.entry.first (kinds.Chain (tree first.now) (links_of (map link_tree links.now))))) }
+    {
+        let first = self.phrase(path, first)?;
+        let links = self.links(path, noted(first.verdict), links)?;
+        chained(spot, first, links)
+    }
+
+    /// Checks the links of a chain, behind a front with this verdict.
+    #[cycle(phrases)]
+    fn links(
+        &mut self,
+        path: &KnownPath<'_, 'a>,
+        front: Verdict<'a>,
+        links: &[Link],
+    ) -> Result<Links<'a>, AllocError>
+        ensures { IfOk result (λ found. LinksChecked self.old self.new found (typed_links (path_view path.now) (view.verdict front.entry) (links_of (map link_tree links.now)))) }
+    {
+        let mut found = Links::new(self.alloc, front);
+        for link in links {
+            let right = self.phrase(path, &link.right)?;
+            found.add(link.op, link.place, right)?;
+        }
+        Ok(found)
+    }
+
+    /// Checks a CASE between values.
+    #[cycle(phrases)]
+    fn case_value(
+        &mut self,
+        path: &KnownPath<'_, 'a>,
+        spot: Spot<'a>,
+        subject: &Phrase,
+        values: &[Phrase],
+    ) -> Result<Typed<'a>, AllocError>
+        ensures { IfOk result (λ t. Checked self.old self.new t (typed_kind (path_view path.now) spot.entry.place spot.entry.first (kinds.CaseValue (tree subject.now) (phrases_of (map tree values.now))))) }
+    {
+        let subject = self.phrase(path, subject)?;
+        let values = self.phrases(path, values)?;
+        case_value(spot, subject, values)
+    }
+
+    /// Checks a CASE between statements.
+    #[cycle(phrases)]
+    fn case_do(
+        &mut self,
+        path: &KnownPath<'_, 'a>,
+        spot: Spot<'a>,
+        subject: &Phrase,
+        parts: &[Phrase],
+    ) -> Result<Typed<'a>, AllocError>
+        ensures { IfOk result (λ t. Checked self.old self.new t (typed_kind (path_view path.now) spot.entry.place spot.entry.first (kinds.CaseDo (tree subject.now) (phrases_of (map tree parts.now))))) }
+    {
+        let subject = self.phrase(path, subject)?;
+        let parts = self.phrases(path, parts)?;
+        case_do(spot, subject, parts)
+    }
+
+    /// Checks phrases.
+    #[cycle(phrases)]
+    fn phrases(
+        &mut self,
+        path: &KnownPath<'_, 'a>,
+        phrases: &[Phrase],
+    ) -> Result<Phrases<'a>, AllocError>
+        ensures { IfOk result (λ found. PhrasesChecked self.old self.new found (typed_phrases (path_view path.now) (phrases_of (map tree phrases.now)))) }
+    {
+        let mut found = Phrases::new(self.alloc);
+        for phrase in phrases {
+            let typed = self.phrase(path, phrase)?;
+            found.add(typed)?;
+        }
+        Ok(found)
+    }
+
+    /// Checks whether a reference is to a record of a class.
+    #[cycle(phrases)]
+    fn is_class(
+        &mut self,
+        path: &KnownPath<'_, 'a>,
+        spot: Spot<'a>,
+        operand: &Phrase,
+        name: &Name,
+        place: Place,
+    ) -> Result<Typed<'a>, AllocError>
+        ensures { IfOk result (λ t. Checked self.old self.new t (typed_kind (path_view path.now) spot.entry.place spot.entry.first (kinds.IsClass (tree operand.now) name.now place))) }
+    {
+        let operand = self.phrase(path, operand)?;
+        class_fault(path, &(*name, place), &mut self.faults)?;
+        is_class(spot, path, operand, name, place)
+    }
+
+    /// Checks an assignment.
+    #[cycle(phrases)]
+    fn assign(
+        &mut self,
+        path: &KnownPath<'_, 'a>,
+        spot: Spot<'a>,
+        target: &Phrase,
+        value: &Phrase,
+    ) -> Result<Typed<'a>, AllocError>
+        ensures { IfOk result (λ t. Checked self.old self.new t (typed_kind (path_view path.now) spot.entry.place spot.entry.first (kinds.Assign (tree target.now) (tree value.now)))) }
+    {
+        let left = left_of(path, target);
+        let target = self.phrase(path, target)?;
+        let value = self.phrase(path, value)?;
+        assigned(spot, left, target, value)
+    }
+
+    /// Checks the body of a FOR at a place.
+    #[cycle(phrases)]
+    fn controlled(
+        &mut self,
+        path: &KnownPath<'_, 'a>,
+        place: Place,
+        name: &Name,
+        body: &Phrase,
+    ) -> Result<Typed<'a>, AllocError>
+        ensures { IfOk result (λ t. Noted self.old self.new t (typed_phrase (scopes.control_scope place name.now ∷ path_view path.now) (tree body.now))) }
+    {
+        let scope = control_scope(self.alloc, place, *name)?;
+        self.phrase(&KnownPath::Inner(&scope, &*path), body)
+    }
+
+    /// Checks a FOR without a step.
+    #[cycle(phrases)]
+    fn for_until(
+        &mut self,
+        path: &KnownPath<'_, 'a>,
+        spot: Spot<'a>,
+        name: &Name,
+        start: &Phrase,
+        limit: &Phrase,
+        body: &Phrase,
+    ) -> Result<Typed<'a>, AllocError>
+        ensures { IfOk result (λ t. Checked self.old self.new t (typed_kind (path_view path.now) spot.entry.place spot.entry.first (kinds.ForStep name.now (tree start.now) kinds.Missing (tree limit.now) (tree body.now)))) }
+    {
+        let start = self.phrase(path, start)?;
+        let limit = self.phrase(path, limit)?;
+        let body = self.controlled(path, spot.place, name, body)?;
+        for_until(spot, start, limit, body)
+    }
+
+    /// Checks a FOR with a step.
+    #[cycle(phrases)]
+    fn for_step(
+        &mut self,
+        path: &KnownPath<'_, 'a>,
+        spot: Spot<'a>,
+        name: &Name,
+        start: &Phrase,
+        step: &Phrase,
+        limit: &Phrase,
+        body: &Phrase,
+    ) -> Result<Typed<'a>, AllocError>
+        ensures { IfOk result (λ t. Checked self.old self.new t (typed_kind (path_view path.now) spot.entry.place spot.entry.first (kinds.ForStep name.now (tree start.now) (kinds.There (tree step.now)) (tree limit.now) (tree body.now)))) }
+    {
+        let start = self.phrase(path, start)?;
+        let step = self.phrase(path, step)?;
+        let limit = self.phrase(path, limit)?;
+        let body = self.controlled(path, spot.place, name, body)?;
+        for_step(spot, start, step, limit, body)
+    }
+
+    /// Checks a FOR with a list of values.
+    #[cycle(phrases)]
+    fn for_list(
+        &mut self,
+        path: &KnownPath<'_, 'a>,
+        spot: Spot<'a>,
+        name: &Name,
+        values: &[Phrase],
+        body: &Phrase,
+    ) -> Result<Typed<'a>, AllocError>
+        ensures { IfOk result (λ t. Checked self.old self.new t (typed_kind (path_view path.now) spot.entry.place spot.entry.first (kinds.ForList name.now (phrases_of (map tree values.now)) (tree body.now)))) }
+    {
+        let values = self.phrases(path, values)?;
+        let body = self.controlled(path, spot.place, name, body)?;
+        for_list(spot, values, body)
+    }
+
+    /// Checks a name and the lists behind it.
+    #[cycle(phrases)]
+    fn named(
+        &mut self,
+        path: &KnownPath<'_, 'a>,
+        spot: Spot<'a>,
+        name: &Name,
+        lists: &[List],
+    ) -> Result<Typed<'a>, AllocError>
+        ensures { IfOk result (λ t. Checked self.old self.new t (typed_kind (path_view path.now) spot.entry.place spot.entry.first (kinds.Named name.now (lists_of (map list_tree lists.now))))) }
+    {
+        let target = path.declared(name);
+        let mut found = Lists::new(self.alloc, Front::Name(spot.place, target));
+        for list in lists {
+            self.list(path, list, &mut found)?;
+        }
+        named(spot, target, found)
+    }
+
+    /// Checks one of the lists behind a name.
+    #[cycle(phrases)]
+    fn list(
+        &mut self,
+        path: &KnownPath<'_, 'a>,
+        list: &List,
+        found: &mut Lists<'a>,
+    ) -> Result<(), AllocError>
+        ensures { (x : std.List ℕ) → OnOk result (ListChecked x self.old self.new found.old found.new (list_step (path_view path.now) (front_view x found.old.front) (list_tree list.now))) }
+    {
+        match &list.kind {
+            ListKind::Actuals(actuals) => {
+                let parts = self.parts(path, found.front.reading(), actuals)?;
+                found.add_list(self.arena, list.place, parts)?;
+                Ok(())
+            }
+            ListKind::Part(start, length) => {
+                let start = self.phrase(path, start)?;
+                found.add_part(self.alloc, list.place, start, *length)?;
+                Ok(())
+            }
+        }
+    }
+
+    /// Checks the parts of a list, which are read so.
+    #[cycle(phrases)]
+    fn parts(
+        &mut self,
+        path: &KnownPath<'_, 'a>,
+        reading: Reading<'a>,
+        actuals: &[Actual],
+    ) -> Result<Parts<'a>, AllocError>
+        ensures { IfOk result (λ found. PartsChecked self.old self.new found (typed_parts (path_view path.now) (meaning_view.reading reading.entry) (actuals_of (map actual_tree actuals.now)))) }
+    {
+        let mut reading = reading;
+        let mut found = Parts::new(self.alloc);
+        for actual in actuals {
+            self.actual(path, reading.wanted(), actual, &mut found)?;
+            reading = reading.behind();
+        }
+        Ok(found)
+    }
+
+    /// Checks a part of a list, of which this is wanted.
+    #[cycle(phrases)]
+    fn actual(
+        &mut self,
+        path: &KnownPath<'_, 'a>,
+        wanted: Wanted<'a>,
+        actual: &Actual,
+        found: &mut Parts<'a>,
+    ) -> Result<(), AllocError>
+        ensures { OnOk result (ActualChecked self.old self.new found.old found.new (actual_step (path_view path.now) (meaning_view.wanted wanted.entry) (actual_tree actual.now))) }
+    {
+        match actual {
+            Actual::Star(place) => found.add_star(*place),
+            Actual::Phrase(phrase) => {
+                let typed = self.inside(path, phrase)?;
+                let given = read(self.alloc, path, wanted, phrase, typed)?;
+                self.note(given.verdict)?;
+                found.add(given.part, given.draft)?;
+                Ok(())
+            }
+        }
+    }
+
+    /// Checks a block.
+    #[cycle(phrases)]
+    fn block(
+        &mut self,
+        path: &KnownPath<'_, 'a>,
+        spot: Spot<'a>,
+        decls: &[Decl],
+        items: &[Item],
+    ) -> Result<Typed<'a>, AllocError>
+        ensures { IfOk result (λ t. Checked self.old self.new t (typed_kind (path_view path.now) spot.entry.place spot.entry.first (kinds.Block (decls_of (map decl_tree decls.now)) (items_of (map item_tree items.now))))) }
+    {
+        let names = names_of_block(self.alloc, decls, items)?;
+        twice(&names, &mut self.faults)?;
+        let mut scope = KnownScope::new(self.alloc);
+        let bounds = self.meanings(path, &KnownPath::Inner(&names, &*path), decls, &mut scope)?;
+        declare_labels(items, &mut scope)?;
+        let inner = KnownPath::Inner(&scope, &*path);
+        let decls = self.decls(&inner, decls, bounds)?;
+        let items = self.items(&inner, items)?;
+        Ok(block(spot, decls, items))
+    }
+
+    /// Checks the declarations of a block as far as their names ask for it: what the block declares, and the bounds of each
+    /// declaration, with the faults in them.
+    #[cycle(phrases)]
+    fn meanings(
+        &mut self,
+        path: &KnownPath<'_, 'a>,
+        names: &KnownPath<'_, 'a>,
+        decls: &[Decl],
+        scope: &mut KnownScope<'a>,
+    ) -> Result<Vec<Bounds<'a>>, AllocError>
+        ensures faults { OnOk result (self.new.faults.items ≡ self.old.faults.items) }
+        ensures scope { OnOk result (scope.new ≡ scope.old ++ rules.meanings (path_view path.now) (path_view names.now) (decls_of (map decl_tree decls.now))) }
+        ensures bounds { IfOk result (λ bs. map bounds_view bs.items ≡ each_bounds (path_view path.now) (map decl_tree decls.now)) }
+    {
+        let mut found = Vec::with_capacity(self.alloc, decls.len())?;
+        for decl in decls {
+            let bounds = self.decl_bounds(path, decl)?;
+            declare(self.alloc, self.arena, names, decl, &bounds, scope)?;
+            found.push(bounds)?;
+        }
+        Ok(found)
+    }
+
+    /// Checks the bounds of a declaration, which none but an array's has, and keeps the faults in them.
+    #[cycle(phrases)]
+    fn decl_bounds(
+        &mut self,
+        path: &KnownPath<'_, 'a>,
+        decl: &Decl,
+    ) -> Result<Bounds<'a>, AllocError>
+        ensures faults { OnOk result (self.new.faults.items ≡ self.old.faults.items) }
+        ensures bounds { IfOk result (λ b. bounds_view b ≡ decl_bounds (path_view path.now) (decl_tree decl.now)) }
+    {
+        let Decl::Array(_, _, bounds) = decl else {
+            return Ok(no_bounds(self.alloc));
+        };
+        let before = std::mem::replace(&mut self.faults, Vec::new(self.alloc));
+        let drafts = self.bounds(path, bounds)?;
+        let faults = std::mem::replace(&mut self.faults, before);
+        Ok(Bounds { faults, drafts })
+    }
+
+    /// Checks bounds.
+    #[cycle(phrases)]
+    fn bounds(
+        &mut self,
+        path: &KnownPath<'_, 'a>,
+        bounds: &[Bound],
+    ) -> Result<Vec<DraftBound<'a>>, AllocError>
+        ensures { IfOk result (λ found. BoundsChecked self.old self.new found (typed_bounds (path_view path.now) (bounds_of (map bound_tree bounds.now)))) }
+    {
+        let mut found = Vec::with_capacity(self.alloc, bounds.len())?;
+        for bound in bounds {
+            found.push(self.bound(path, bound)?)?;
+        }
+        Ok(found)
+    }
+
+    /// Checks the bounds of a dimension.
+    #[cycle(phrases)]
+    fn bound(
+        &mut self,
+        path: &KnownPath<'_, 'a>,
+        bound: &Bound,
+    ) -> Result<DraftBound<'a>, AllocError>
+        ensures { IfOk result (λ b. BoundChecked self.old self.new b bound.now.place (typed_phrase (path_view path.now) (tree bound.now.lower)) (typed_phrase (path_view path.now) (tree bound.now.upper))) }
+    {
+        let lower = self.phrase(path, &bound.lower)?;
+        let upper = self.phrase(path, &bound.upper)?;
+        self.note(bound_verdict(bound.place, lower.verdict, upper.verdict))?;
+        Ok(DraftBound {
+            place: bound.place,
+            lower: lower.draft,
+            upper: upper.draft,
+        })
+    }
+
+    /// Checks the declarations of a block, of which these bounds are checked.
+    #[cycle(phrases)]
+    fn decls(
+        &mut self,
+        path: &KnownPath<'_, 'a>,
+        decls: &[Decl],
+        bounds: Vec<Bounds<'a>>,
+    ) -> Result<Vec<DraftDecl<'a>>, AllocError>
+        requires { length bounds.items ≡ length decls.now }
+        ensures { (around : Scopes) → map bounds_view bounds.entry.items ≡ each_bounds around (map decl_tree decls.now) → IfOk result (λ ds. DeclsChecked self.old self.new ds (typed_decls around (path_view path.now) (decls_of (map decl_tree decls.now)))) }
+    {
+        let mut found = Vec::with_capacity(self.alloc, decls.len())?;
+        let mut bounds = bounds.into_iter();
+        for decl in decls {
+            let own = bounds.next().unwrap();
+            found.push(self.decl(path, decl, own)?)?;
+        }
+        Ok(found)
+    }
+
+    /// Checks a declaration, of which these bounds are checked.
+    #[cycle(phrases)]
+    fn decl(
+        &mut self,
+        path: &KnownPath<'_, 'a>,
+        decl: &Decl,
+        bounds: Bounds<'a>,
+    ) -> Result<DraftDecl<'a>, AllocError>
+        ensures { (around : Scopes) → bounds_view bounds.entry ≡ decl_bounds around (decl_tree decl.now) → IfOk result (λ d. DeclFound self.old.faults.items self.new.faults.items d (typed_decl around (path_view path.now) (decl_tree decl.now))) }
+    {
+        match decl {
+            Decl::Simple(spec, names) => {
+                simple(self.alloc, self.arena, path, spec, names, &mut self.faults)
+            }
+            Decl::Array(spec, names, sizes) => array(
+                self.alloc,
+                self.arena,
+                path,
+                spec,
+                names,
+                sizes.len(),
+                bounds,
+                &mut self.faults,
+            ),
+            Decl::Proc(procedure) => self.procedure(path, procedure),
+            Decl::Class(declared) => {
+                class(self.alloc, self.arena, path, declared, &mut self.faults)
+            }
+        }
+    }
+
+    /// Checks a procedure.
+    #[cycle(phrases)]
+    fn procedure(
+        &mut self,
+        path: &KnownPath<'_, 'a>,
+        declared: &ProcDecl,
+    ) -> Result<DraftDecl<'a>, AllocError>
+        ensures { (around : Scopes) → IfOk result (λ d. DeclFound self.old.faults.items self.new.faults.items d (typed_decl around (path_view path.now) (procedure_tree declared.now))) }
+    {
+        let head = read_head(
+            self.alloc,
+            self.arena,
+            path,
+            &declared.result,
+            &declared.formals,
+            &mut self.faults,
+        )?;
+        let formals = formal_scope(self.alloc, self.arena, path, &declared.formals)?;
+        twice(&formals, &mut self.faults)?;
+        let body = self.phrase(&KnownPath::Inner(&formals, &*path), &declared.body)?;
+        self.note(procedure_verdict(declared.place, &head, body.verdict))?;
+        procedure(
+            self.alloc,
+            declared.place,
+            declared.name.1,
+            head,
+            body.draft,
+        )
+    }
+
+    /// Checks the items of a block.
+    #[cycle(phrases)]
+    fn items(&mut self, path: &KnownPath<'_, 'a>, items: &[Item]) -> Result<Items<'a>, AllocError>
+        ensures { IfOk result (λ found. ItemsChecked self.old self.new found (typed_items (path_view path.now) (Good Statement) (items_of (map item_tree items.now)))) }
+    {
+        let mut found = Items::new(self.alloc);
+        for (position, item) in items.iter().enumerate() {
+            let is_last = position + 1 == items.len();
+            self.item(path, is_last, item, &mut found)?;
+        }
+        Ok(found)
+    }
+
+    /// Checks an item of a block.
+    #[cycle(phrases)]
+    fn item(
+        &mut self,
+        path: &KnownPath<'_, 'a>,
+        is_last: bool,
+        item: &Item,
+        found: &mut Items<'a>,
+    ) -> Result<(), AllocError>
+        ensures { OnOk result (ItemChecked self.old self.new found.old found.new item.now.labels.items (typed_phrase (path_view path.now) (tree item.now.phrase)) (item_end is_last item.now.labels.items (tree item.now.phrase) (typed_phrase (path_view path.now) (tree item.now.phrase)))) }
+    {
+        let typed = self.phrase(path, &item.phrase)?;
+        let verdict = item_verdict(is_last, &item.labels, item.phrase.first, typed.verdict);
+        self.note(verdict)?;
+        found.add(self.alloc, &item.labels, typed.draft, verdict)
+    }
+}
+
+/// What is found of a program, and all its faults, in the order of the rules.
+#[derive(Drop)]
+pub struct FoundProgram<'a> {
+    /// The program.
+    pub draft: Draft<'a>,
+    /// The faults.
+    pub faults: Vec<Diagnostic>,
+}
+
+/// The verdict of a program, at `BEGIN`, by that of its block.
+fn program_verdict<'a>(place: Place, block: Verdict<'a>) -> Verdict<'a>
+    ensures { view.verdict result ≡ part (type_of (view.verdict block.entry)) (rows.program_row place) }
+{
+    match block {
+        Ok(gives) => program_row(place, gives),
+        Err(_) => Err(NoType::Silent),
+    }
+}
+
+/// Checks a program, with the standard names in a block round it.
+pub fn check_program<'a>(
+    alloc: Global,
+    arena: &'a Bump,
+    phrase: &Phrase,
+) -> Result<FoundProgram<'a>, AllocError>
+    ensures draft { IfOk result (λ found. draft_view found.draft ≡ (typed_program (tree phrase.now)).node) }
+    ensures faults { IfOk result (λ found. found.faults.items ≡ faults_found (tree phrase.now) (typed_program (tree phrase.now))) }
+{
+    let mut checker = Checker {
+        alloc,
+        arena,
+        faults: Vec::new(alloc),
+    };
+    let standard = standard_scope(alloc)?;
+    let path = KnownPath::Inner(&standard, &KnownPath::Outermost);
+    let typed = checker.phrase(&path, phrase)?;
+    checker.note(program_verdict(phrase.place, typed.verdict))?;
+    Ok(FoundProgram {
+        draft: typed.draft,
+        faults: checker.faults,
+    })
+}

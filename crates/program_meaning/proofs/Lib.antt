@@ -1,0 +1,9 @@
+pub mod Same
+pub mod Putting
+pub mod Blocks
+pub mod Law
+pub mod Keeping
+pub mod Alive
+pub mod Runs
+pub mod Balance
+pub mod Balanced

@@ -1,0 +1,9 @@
+pub mod Phrases
+pub mod Translating
+pub mod Operations
+pub mod State
+pub mod Copying
+pub mod Environments
+pub mod Closing
+pub mod Results
+pub mod Laws

@@ -1,0 +1,5 @@
+pub mod Held
+pub mod HoldsClasses
+pub mod Makes
+pub mod Numbered
+pub mod ProgramParts

@@ -1,0 +1,40 @@
+-- What is made of a typed tree while sets of classes are added to a table.
+use Rattle.std.specs.Prelude.{◌≡◌, ℕ, ◌<◌, ◌++◌, List, length, map, slice_index_or}
+use Rattle.value_ops.specs.declared.places.Place.{Place}
+use Rattle.value_ops.specs.declared.values.ClassId.{ClassId}
+use Rattle.record_classes.specs.Classes.{Classes}
+use Rattle.algolw_typing.specs.Typed as typed
+use Rattle.algolw_typing.specs.ProgramView.{Numbers, numbered}
+use Rattle.typing_rules.specs.ClassSets.{Rising}
+use Rattle.program_numbers.specs.declared.numbering.Numbering.{Numbering}
+
+abbrev pub Sets : Type 0
+Sets = List (List ClassId)
+
+-- sets that stand behind these
+pub record Follows (sets later : Sets) : Type 0 where
+  pub more : Sets
+  pub is : later ≡ sets ++ more
+
+-- the classes with these numbers, by place
+abbrev pub places_in : List Place → List ClassId → List Place
+places_in classes set = map (λ c. numbered classes c.0) set
+
+-- each set is in order of place, with each class once
+pub record AllRise (classes : List Place) (sets : Sets) : Type 0 where
+  pub each : (i : ℕ) (d : List ClassId) → i < length sets → Rising (places_in classes (slice_index_or sets i d))
+
+-- what numbers stand for, where the sets are these
+abbrev pub numbers_in : Numbering → Sets → Numbers
+numbers_in n sets = record { names = n.names; classes = n.classes; sets = sets; statements = n.statements }
+
+-- what is declared, by its number
+abbrev pub target_in : Numbering → ℕ × Place → typed.Placed
+target_in n t = (numbered n.names t.0, t.1)
+
+-- From table to table sets are added, and nothing else. What is seen of what was made is x, also when more sets are added.
+pub record Makes {A : Type 0} (n : Numbering) (old new : Classes) (view : Numbers → A) (x : A) : Type 0 where
+  pub classes : new.classes ≡ old.classes
+  pub follows : Follows old.sets new.sets
+  pub rise : AllRise n.classes old.sets → AllRise n.classes new.sets
+  pub means : (later : Sets) → Follows new.sets later → AllRise n.classes later → view (numbers_in n later) ≡ x

@@ -1,0 +1,46 @@
+ghost use Rattle.std.specs.Prelude.{◌≡◌, IfOk, map};
+ghost use Rattle.algolw_typing.specs.Known.{FieldsKnow, ClassesKnow};
+ghost use Rattle.block_scopes.specs.ClassView.{class_view, field_view};
+ghost use Rattle.program_numbers.specs.Makes.{Makes};
+ghost use Rattle.program_numbers.specs.HoldsClasses.{HoldsClasses, field_in, named_class};
+
+use crate::numbering::Numbering;
+use block_scopes::{Field, FoundClass};
+use record_classes::ClassTable;
+use std::alloc::AllocError;
+use value_ops::{Name, SimpleType};
+
+impl Numbering {
+    /// The fields of a record class.
+    fn fields(
+        &self,
+        table: &mut ClassTable,
+        fields: &[Field],
+    ) -> Result<Vec<(Name, SimpleType)>, AllocError>
+        requires { FieldsKnow self.now.classes (map field_view fields.now) }
+        ensures { IfOk result (λ made. Makes self.now table.old table.new (λ ns. map (field_in ns) made.items) (map field_view fields.now)) }
+    {
+        let mut made = Vec::new(self.alloc);
+        for field in fields {
+            let of = self.simple_type(table, field.field_type)?;
+            made.push((field.name, of))?;
+        }
+        Ok(made)
+    }
+
+    /// The table of record classes.
+    pub fn class_table(&self, classes: &[FoundClass]) -> Result<ClassTable, AllocError>
+        requires { ClassesKnow self.now.classes (map class_view classes.now) }
+        ensures { IfOk result (λ table. HoldsClasses self.now table (map named_class (map class_view classes.now))) }
+    {
+        let mut table = ClassTable::new(self.alloc);
+        for class in classes {
+            let fields = self.fields(&mut table, &class.fields)?;
+            if table.class_count() >= 65535 || fields.len() >= 4294967295 {
+                return Err(AllocError);
+            }
+            table.add_class(class.name, fields)?;
+        }
+        Ok(table)
+    }
+}

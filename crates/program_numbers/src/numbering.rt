@@ -1,0 +1,158 @@
+ghost use Rattle.std.specs.Prelude.{◌≡◌, IfOk, map, true};
+ghost use Rattle.std.specs.Option.{option_map};
+ghost use Rattle.algolw_typing.specs.Known.{AllHad, KnowsType, KnowsResult, KnowsGives, KnowsDeclared};
+ghost use Rattle.algolw_typing.specs.ProgramView.{numbered, set_view, type_view, gives_view};
+ghost use Rattle.algolw_typing.specs.Types.{has};
+ghost use Rattle.typed_drafts.specs.DraftView.{placed_view};
+ghost use Rattle.typing_rules.specs.ClassSets.{Rising};
+ghost use Rattle.typing_rules.specs.View.{value_type, phrase_type};
+ghost use Rattle.program_numbers.specs.Makes.{Makes, places_in, target_in};
+ghost use Rattle.program_numbers.specs.Numbered.{StatementNumbered};
+
+use crate::place_numbers::PlaceNumbers;
+use algolw_tree::{Gives, Targets};
+use record_classes::ClassTable;
+use std::alloc::{AllocError, Global};
+use typing_rules::{PhraseType, ValueType};
+use value_ops::{ClassId, Place, SetId, SimpleType};
+
+/// The numbers of names, record classes and statements, by their places.
+#[derive(Drop)]
+pub(crate) struct Numbering {
+    /// Where what is made is held.
+    pub alloc: Global,
+    /// The names.
+    pub names: PlaceNumbers,
+    /// The record classes.
+    pub classes: PlaceNumbers,
+    /// The statements.
+    pub statements: PlaceNumbers,
+}
+
+impl Numbering {
+    /// The places of the statements.
+    pub fn into_statements(self) -> Vec<Place>
+        ensures { result.items ≡ self.statements }
+    {
+        let Numbering {
+            alloc: _,
+            names: _,
+            classes: _,
+            statements,
+        } = self;
+        statements.into_places()
+    }
+
+    /// What is declared, each by its number.
+    pub fn targets(&self, places: &[Place]) -> Result<Targets, AllocError>
+        requires { KnowsDeclared self.now.names (placed_view places.now) }
+        ensures { IfOk result (λ targets. map (target_in self.now) targets.items ≡ placed_view places.now) }
+    {
+        let mut targets = Vec::new(self.alloc);
+        for place in places {
+            targets.push((self.names.number(*place), *place))?;
+        }
+        Ok(targets)
+    }
+
+    /// The number of a statement.
+    pub fn statement(&self, statement: Option<Place>) -> Option<u32>
+        requires { StatementNumbered self.now statement }
+        ensures { option_map (numbered self.now.statements) result ≡ statement }
+    {
+        match statement {
+            Some(place) => Some(self.statements.number(place)),
+            None => None,
+        }
+    }
+
+    /// The number of a record class.
+    fn class(&self, class: Place) -> Result<ClassId, AllocError>
+        requires { has self.now.classes class ≡ true }
+        ensures { IfOk result (λ id. numbered self.now.classes id.0 ≡ class) }
+    {
+        match u16::try_from(self.classes.number(class)) {
+            Ok(number) => Ok(ClassId(number)),
+            Err(_) => Err(AllocError),
+        }
+    }
+
+    /// The numbers of record classes.
+    fn class_ids(&self, classes: &[Place]) -> Result<Vec<ClassId>, AllocError>
+        requires { AllHad self.now.classes classes.now }
+        ensures { IfOk result (λ ids. places_in self.now.classes ids.items ≡ classes.now) }
+    {
+        let mut ids = Vec::new(self.alloc);
+        for class in classes {
+            ids.push(self.class(*class)?)?;
+        }
+        Ok(ids)
+    }
+
+    /// The number of a set of record classes, which is added to the table where it isn't there.
+    fn set(&self, table: &mut ClassTable, classes: &[Place]) -> Result<SetId, AllocError>
+        requires had { AllHad self.now.classes classes.now }
+        requires rising { Rising classes.now }
+        ensures { IfOk result (λ set. Makes self.now table.old table.new (λ ns. set_view ns set.0) classes.now) }
+    {
+        let ids = self.class_ids(classes)?;
+        if table.set_count() >= 65535 {
+            return Err(AllocError);
+        }
+        table.add_set(ids)
+    }
+
+    /// A type.
+    pub fn simple_type(
+        &self,
+        table: &mut ClassTable,
+        of: ValueType,
+    ) -> Result<SimpleType, AllocError>
+        requires { KnowsType self.now.classes (value_type of) }
+        ensures { IfOk result (λ made. Makes self.now table.old table.new (λ ns. type_view ns made) (value_type of.entry)) }
+    {
+        match of {
+            ValueType::Integer => Ok(SimpleType::Integer),
+            ValueType::Logical => Ok(SimpleType::Logical),
+            ValueType::Bits => Ok(SimpleType::Bits),
+            ValueType::Str(length) => match u16::try_from(length) {
+                Ok(length) => Ok(SimpleType::Str(length)),
+                Err(_) => Err(AllocError),
+            },
+            ValueType::Reference(classes) => {
+                Ok(SimpleType::Reference(self.set(table, classes.places())?))
+            }
+        }
+    }
+
+    /// A type that may be missing.
+    pub fn perhaps_type(
+        &self,
+        table: &mut ClassTable,
+        of: Option<ValueType>,
+    ) -> Result<Option<SimpleType>, AllocError>
+        requires { KnowsResult self.now.classes (option_map value_type of) }
+        ensures { IfOk result (λ made. Makes self.now table.old table.new (λ ns. option_map (type_view ns) made) (option_map value_type of.entry)) }
+    {
+        match of {
+            Some(of) => Ok(Some(self.simple_type(table, of)?)),
+            None => Ok(None),
+        }
+    }
+
+    /// What a phrase gives.
+    pub fn gives(
+        &self,
+        table: &mut ClassTable,
+        gives: Option<PhraseType>,
+    ) -> Result<Option<Gives>, AllocError>
+        requires { KnowsGives self.now.classes (option_map phrase_type gives) }
+        ensures { IfOk result (λ made. Makes self.now table.old table.new (λ ns. option_map (gives_view ns) made) (option_map phrase_type gives.entry)) }
+    {
+        match gives {
+            Some(PhraseType::Value(of)) => Ok(Some(Gives::Simple(self.simple_type(table, of)?))),
+            Some(PhraseType::Statement) => Ok(Some(Gives::Statement)),
+            None => Ok(None),
+        }
+    }
+}

@@ -1,7 +1,0 @@
-use Rattle.std.proofs.Common.{length, sym, ap, ◌∙◌}
-use Rattle.type_checker.proofs.Again.{as_many}
-use Rattle.type_checker.proofs.known.KnownScope.len.Goals as goal
-
-pub returns : goal.returns
-returns c =
-    c.len.ensures ∙ sym (as_many c.self.inside.names c.self.inside.known.items c.self.invariant.each) ∙ ap length c.self.view_is

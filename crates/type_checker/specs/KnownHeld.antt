@@ -1,8 +1,0 @@
--- What a scope with meanings holds to.
-use Rattle.std.specs.Prelude.{◌≡◌, List, length}
-use Rattle.algolw_tree.specs.Tree.{Placed}
-use Rattle.type_checker.specs.declared.known.Known.{Known}
-
--- as much is known as there are names
-pub record AsMany (names : List Placed) (known : List Known) : Type 0 where
-  pub each : length known ≡ length names

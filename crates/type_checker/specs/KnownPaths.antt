@@ -1,8 +1,0 @@
--- The scopes that linked scopes are.
-use Rattle.std.specs.Prelude.{[], ◌∷◌}
-use Rattle.algolw_typing.specs.Scopes.{Scopes}
-use Rattle.type_checker.specs.declared.known.KnownPath.{KnownPath, Outermost, Inner'}
-
-abbrev pub path_view : KnownPath → Scopes
-path_view Outermost = []
-path_view (Inner' own q outer) = own.now ∷ path_view outer

@@ -1,0 +1,67 @@
+ghost use Rattle.std.specs.Prelude.{◌≡◌, [], IfOk, take};
+ghost use Rattle.algolw_tree.specs.View.{tree};
+ghost use Rattle.algolw_typing.specs.Faults.{in_order, program_faults, typed_program};
+ghost use Rattle.algolw_typing.specs.Programs.{program_of};
+ghost use Rattle.algolw_typing.specs.ProgramView.{HoldsProgram};
+ghost use Rattle.typed_drafts.specs.DraftView.{draft_view};
+ghost use Rattle.type_checker.specs.Says.{Says};
+
+use algolw_tree::{Phrase, Program};
+use block_scopes::{resolve, sort_faults};
+use bumpalo::Bump;
+use phrase_checker::check_program;
+use program_numbers::number_program;
+use std::alloc::{AllocError, Global};
+use typed_drafts::Draft;
+use value_ops::Diagnostic;
+
+/// How many diagnostics of a program are given.
+const MOST_DIAGNOSTICS: usize = 20;
+
+/// What checking says of a program.
+#[derive(Drop)]
+pub enum Checked {
+    /// It has no faults, and is this.
+    Good(Program),
+    /// Its diagnostics: the first twenty, in order of place and at one place of number.
+    Bad(Vec<Diagnostic>),
+}
+
+/// Checks the names and types of a program.
+pub fn check(alloc: Global, phrase: &Phrase) -> Result<Checked, AllocError>
+    ensures { IfOk result (λ checked. Says (tree phrase.now) checked) }
+{
+    let arena = Bump::new(alloc);
+    let found = check_program(alloc, &arena, phrase)?;
+    if found.faults.is_empty() {
+        let program = good_program(alloc, &arena, phrase, &found.draft)?;
+        return Ok(Checked::Good(program));
+    }
+    let given = given_diagnostics(found.faults)?;
+    Ok(Checked::Bad(given))
+}
+
+/// The program that a phrase without faults is.
+fn good_program<'a>(
+    alloc: Global,
+    arena: &'a Bump,
+    phrase: &Phrase,
+    draft: &Draft<'a>,
+) -> Result<Program, AllocError>
+    requires faults { program_faults (tree phrase.now) ≡ [] }
+    requires draft { draft_view draft.now ≡ (typed_program (tree phrase.now)).node }
+    ensures { IfOk result (λ program. HoldsProgram program (program_of (tree phrase.now))) }
+{
+    let scopes = resolve(alloc, arena, phrase)?;
+    number_program(alloc, draft, scopes.names, &scopes.classes)
+}
+
+/// The diagnostics that are given of all that are found: the first twenty, in order.
+fn given_diagnostics(found: Vec<Diagnostic>) -> Result<Vec<Diagnostic>, AllocError>
+    ensures { IfOk result (λ given. given.items ≡ take 20 (in_order found.items)) }
+{
+    let mut given = found;
+    sort_faults(&mut given)?;
+    given.truncate(MOST_DIAGNOSTICS);
+    Ok(given)
+}

@@ -1,0 +1,4 @@
+pub mod DraftRows
+pub mod DraftSizes
+pub mod KindRows
+pub mod StatementArms

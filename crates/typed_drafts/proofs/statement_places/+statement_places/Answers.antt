@@ -1,0 +1,94 @@
+use Rattle.std.proofs.Common.{◌+◌, suc, map, refl, ap, rules}
+use Rattle.algolw_typing.specs.Typed as typed
+use Rattle.typed_drafts.specs.DraftView.{draft_view, actual_view, decl_view}
+use Rattle.typed_drafts.specs.DraftParts.{link_view, list_view, item_view, bound_view}
+use Rattle.typed_drafts.specs.Onto.{nodes_onto, links_onto, lists_onto, actuals_onto, items_onto, bounds_onto, decls_onto}
+use Rattle.typed_drafts.proofs.DraftSizes.{size, size_kind, size_nodes, size_links, size_lists, size_listing, size_actuals, size_actual, size_items, size_bounds, size_decls, size_decl, item_smaller}
+use Rattle.algolw_typing.specs.Programs.{kind_statements, decl_statements}
+use Rattle.typed_drafts.specs.StatementParts.{listing_statements}
+use Rattle.typed_drafts.proofs.KindRows.{named_at, chain_at, case_value_at, case_do_at, for_list_at, block_at, actuals_at, array_at}
+use Rattle.typed_drafts.proofs.StatementArms.{by_part}
+use Rattle.typed_drafts.proofs.statement_places.+statement_places.Goals as goal
+
+pub add_drafts-add_draft-requires : goal.add_drafts-add_draft-requires
+add_drafts-add_draft-requires t c =
+    let h = item_smaller (λ xs. size_nodes (nodes_onto (map draft_view xs) typed.no_nodes)) (λ x. size (draft_view x)) (λ x xs. refl) c.args.drafts.now c.loop-draft.draft-index c.draft-item.result c.loop-draft-test.true c.draft-item.is in
+    search rules
+
+pub add_links-add_draft-requires : goal.add_links-add_draft-requires
+add_links-add_draft-requires t c =
+    let h = item_smaller (λ xs. size_links (links_onto (map link_view xs) typed.no_links)) (λ x. size (draft_view x.right)) (λ x xs. refl) c.args.links.now c.loop-link.link-index c.link-item.result c.loop-link-test.true c.link-item.is in
+    search rules
+
+pub add_lists-add_list-requires : goal.add_lists-add_list-requires
+add_lists-add_list-requires t c =
+    let h = item_smaller (λ xs. size_lists (lists_onto (map list_view xs) typed.no_lists)) (λ x. size_listing (list_view x)) (λ x xs. refl) c.args.lists.now c.loop-list.list-index c.list-item.result c.loop-list-test.true c.list-item.is in
+    search rules
+
+pub add_actuals-add_actual-requires : goal.add_actuals-add_actual-requires
+add_actuals-add_actual-requires t c =
+    let h = item_smaller (λ xs. size_actuals (actuals_onto (map actual_view xs) typed.no_actuals)) (λ x. size_actual (actual_view x)) (λ x xs. refl) c.args.actuals.now c.loop-actual.actual-index c.actual-item.result c.loop-actual-test.true c.actual-item.is in
+    search rules
+
+pub add_items-add_draft-requires : goal.add_items-add_draft-requires
+add_items-add_draft-requires t c =
+    let h = item_smaller (λ xs. size_items (items_onto (map item_view xs) typed.no_items)) (λ x. size (draft_view x.phrase)) (λ x xs. refl) c.args.items.now c.loop-item.item-index c.item-item.result c.loop-item-test.true c.item-item.is in
+    search rules
+
+pub add_bounds-add_both-requires : goal.add_bounds-add_both-requires
+add_bounds-add_both-requires t c =
+    let h = item_smaller (λ xs. size_bounds (bounds_onto (map bound_view xs) typed.no_bounds)) (λ x. suc (size (draft_view x.lower) + size (draft_view x.upper))) (λ x xs. refl) c.args.bounds.now c.loop-bound.bound-index c.bound-item.result c.loop-bound-test.true c.bound-item.is in
+    search rules
+
+pub add_decls-add_decl-requires : goal.add_decls-add_decl-requires
+add_decls-add_decl-requires t c =
+    let h = item_smaller (λ xs. size_decls (decls_onto (map decl_view xs) typed.no_decls)) (λ x. suc (size_decl (decl_view x))) (λ x xs. refl) c.args.decls.now c.loop-decl.decl-index c.decl-item.result c.loop-decl-test.true c.decl-item.is in
+    search rules
+
+pub add_kind-add_lists-requires : goal.add_kind-add_lists-requires
+add_kind-add_lists-requires t c = search (rules, ap size_kind (named_at _ _ c.in-Named.lists _ c.in-Named.is c.deref.ensures.value))
+
+pub add_kind-returns-in-Named : goal.add_kind-returns-in-Named
+add_kind-returns-in-Named t c = by_part kind_statements c.add_lists.result c.args.places.now.items c.add_lists.new.places.items _ _ (named_at _ _ c.in-Named.lists _ c.in-Named.is c.deref.ensures.value) c.add_lists.ensures
+
+pub add_kind-add_chain-requires : goal.add_kind-add_chain-requires
+add_kind-add_chain-requires t c = search (rules, ap size_kind (chain_at _ c.in-Chain.first c.in-Chain.links _ _ c.in-Chain.is c.deref-in-Chain.ensures c.deref-in-Chain-2.ensures.value))
+
+pub add_kind-returns-in-Chain : goal.add_kind-returns-in-Chain
+add_kind-returns-in-Chain t c = by_part kind_statements c.add_chain.result c.args.places.now.items c.add_chain.new.places.items _ _ (chain_at _ c.in-Chain.first c.in-Chain.links _ _ c.in-Chain.is c.deref-in-Chain.ensures c.deref-in-Chain-2.ensures.value) c.add_chain.ensures
+
+pub add_kind-add_selection-requires : goal.add_kind-add_selection-requires
+add_kind-add_selection-requires t c = search (rules, ap size_kind (case_value_at _ c.in-CaseValue.subject c.in-CaseValue.values _ _ c.in-CaseValue.is c.deref-in-CaseValue.ensures c.deref-in-CaseValue-2.ensures.value))
+
+pub add_kind-returns-in-CaseValue : goal.add_kind-returns-in-CaseValue
+add_kind-returns-in-CaseValue t c = by_part kind_statements c.add_selection.result c.args.places.now.items c.add_selection.new.places.items _ _ (case_value_at _ c.in-CaseValue.subject c.in-CaseValue.values _ _ c.in-CaseValue.is c.deref-in-CaseValue.ensures c.deref-in-CaseValue-2.ensures.value) c.add_selection.ensures
+
+pub add_kind-add_selection-requires-in-CaseDo : goal.add_kind-add_selection-requires-in-CaseDo
+add_kind-add_selection-requires-in-CaseDo t c = search (rules, ap size_kind (case_do_at _ c.in-CaseDo.subject c.in-CaseDo.parts _ _ c.in-CaseDo.is c.deref-in-CaseDo.ensures c.deref-in-CaseDo-2.ensures.value))
+
+pub add_kind-returns-in-CaseDo : goal.add_kind-returns-in-CaseDo
+add_kind-returns-in-CaseDo t c = by_part kind_statements c.add_selection-in-CaseDo.result c.args.places.now.items c.add_selection-in-CaseDo.new.places.items _ _ (case_do_at _ c.in-CaseDo.subject c.in-CaseDo.parts _ _ c.in-CaseDo.is c.deref-in-CaseDo.ensures c.deref-in-CaseDo-2.ensures.value) c.add_selection-in-CaseDo.ensures
+
+pub add_kind-add_listed-requires : goal.add_kind-add_listed-requires
+add_kind-add_listed-requires t c = search (rules, ap size_kind (for_list_at _ c.in-ForList.field-0 c.in-ForList.values c.in-ForList.body _ _ c.in-ForList.is c.deref-in-ForList.ensures.value c.deref-in-ForList-2.ensures))
+
+pub add_kind-returns-in-ForList : goal.add_kind-returns-in-ForList
+add_kind-returns-in-ForList t c = by_part kind_statements c.add_listed.result c.args.places.now.items c.add_listed.new.places.items _ _ (for_list_at _ c.in-ForList.field-0 c.in-ForList.values c.in-ForList.body _ _ c.in-ForList.is c.deref-in-ForList.ensures.value c.deref-in-ForList-2.ensures) c.add_listed.ensures
+
+pub add_kind-add_block-requires : goal.add_kind-add_block-requires
+add_kind-add_block-requires t c = search (rules, ap size_kind (block_at _ c.in-Block.decls c.in-Block.items _ _ c.in-Block.is c.deref-in-Block.ensures.value c.deref-in-Block-2.ensures.value))
+
+pub add_kind-returns-in-Block : goal.add_kind-returns-in-Block
+add_kind-returns-in-Block t c = by_part kind_statements c.add_block.result c.args.places.now.items c.add_block.new.places.items _ _ (block_at _ c.in-Block.decls c.in-Block.items _ _ c.in-Block.is c.deref-in-Block.ensures.value c.deref-in-Block-2.ensures.value) c.add_block.ensures
+
+pub add_list-add_actuals-requires : goal.add_list-add_actuals-requires
+add_list-add_actuals-requires t c = search (rules, ap size_listing (actuals_at c.args.list.now.place _ c.in-Actuals.actuals _ c.in-Actuals.is c.deref.ensures.value))
+
+pub add_list-returns-in-Actuals : goal.add_list-returns-in-Actuals
+add_list-returns-in-Actuals t c = by_part listing_statements c.add_actuals.result c.args.places.now.items c.add_actuals.new.places.items _ _ (actuals_at c.args.list.now.place _ c.in-Actuals.actuals _ c.in-Actuals.is c.deref.ensures.value) c.add_actuals.ensures
+
+pub add_decl-add_bounds-requires : goal.add_decl-add_bounds-requires
+add_decl-add_bounds-requires t c = search (rules, ap size_decl (array_at _ c.in-Array.field-0 c.in-Array.field-1 c.in-Array.bounds _ c.in-Array.is c.deref.ensures.value))
+
+pub add_decl-returns-in-Array : goal.add_decl-returns-in-Array
+add_decl-returns-in-Array t c = by_part decl_statements c.add_bounds.result c.args.places.now.items c.add_bounds.new.places.items _ _ (array_at _ c.in-Array.field-0 c.in-Array.field-1 c.in-Array.bounds _ c.in-Array.is c.deref.ensures.value) c.add_bounds.ensures

@@ -1,0 +1,5 @@
+pub mod DraftView
+pub mod DraftParts
+pub mod Groups
+pub mod Onto
+pub mod StatementParts

@@ -1,0 +1,13 @@
+//! The typed tree of a program before its names and classes have numbers.
+#![tactic(auto)]
+
+mod drafts;
+mod statement_places;
+#[cfg(test)]
+mod tests;
+
+pub use drafts::{
+    Draft, DraftActual, DraftBound, DraftClass, DraftDecl, DraftFormal, DraftItem, DraftKind,
+    DraftLink, DraftList, DraftListKind, DraftProc, Places,
+};
+pub use statement_places::statements;

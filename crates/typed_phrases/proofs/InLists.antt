@@ -1,0 +1,92 @@
+-- How a phrase in a list is read, by its kind, and what its own list holds.
+use Rattle.std.proofs.Common.{◌≡◌, ℕ, ◌<◌, true, false, List, [], ◌∷◌, length, get_or, map, refl, sym, ap, ◌∙◌, arith}
+use Rattle.std.specs.declared.vec.Vec.{Vec}
+use Rattle.std.specs.declared.alloc.Global.{Global}
+use Rattle.value_ops.specs.declared.places.Place.{Place}
+use Rattle.algolw_tree.specs.declared.phrases.List as list
+use Rattle.algolw_tree.specs.declared.phrases.Kind as phrase
+use Rattle.algolw_tree.specs.declared.phrases.Kind.{Kind}
+use Rattle.algolw_tree.specs.Grammar.{lists_of}
+use Rattle.algolw_tree.specs.Tree as tree
+use Rattle.algolw_tree.specs.View.{kind_tree, list_tree}
+use Rattle.algolw_typing.specs.Actuals.{Wanted}
+use Rattle.algolw_typing.specs.Meanings.{Part, a_star}
+use Rattle.algolw_typing.specs.Names.{declared}
+use Rattle.algolw_typing.specs.Scopes.{Scopes}
+use Rattle.algolw_typing.specs.Typed as typed
+use Rattle.algolw_typing.specs.Typing.{Out, given, meaning_of, name_given, list_given, phrase_given, variable_name, part_of_node, parts_of_actuals, parts_of_kind, parts_of_lists}
+use Rattle.typed_drafts.specs.declared.drafts.DraftKind.{DraftKind, Named}
+use Rattle.typed_drafts.specs.declared.drafts.DraftList.{DraftList}
+use Rattle.typed_drafts.specs.DraftView.{kind_view}
+use Rattle.typed_drafts.specs.DraftParts.{list_view}
+use Rattle.typed_drafts.specs.Onto.{actuals_onto, lists_onto}
+use Rattle.typed_drafts.proofs.DraftRows.{vec_lists}
+use Rattle.typed_phrases.specs.Fronts.{of_actuals, part_of_actual, parts_of_listing}
+use Rattle.algolw_tree.proofs.Rows.{named_at}
+
+-- ---- a name in a list, by the lists behind it
+
+at_named : (path : Scopes) (w : Wanted) (p f : Place) (k : Kind) (x : List ℕ) (v : Vec list.List Global) (o : Out) → k ≡ phrase.Named x v → given path w (tree.At p f (kind_tree k)) o ≡ given path w (tree.At p f (tree.Named x (lists_of (map list_tree v.items)))) o
+at_named path w p f k x v o e = ap (λ (z : tree.Kind). given path w (tree.At p f z) o) (named_at k x v v.items e refl)
+
+by_name : (path : Scopes) (w : Wanted) (p f : Place) (x : List ℕ) (xs : List list.List) (o : Out) → length xs ≡ 0 → given path w (tree.At p f (tree.Named x (lists_of (map list_tree xs)))) o ≡ name_given w (meaning_of (declared path x)) o
+by_name path w p f x [] o h = refl
+by_name path w p f x (y ∷ ys) o h = absurd (omega (arith, h))
+
+one_by : (path : Scopes) (w : Wanted) (p f : Place) (x : List ℕ) (l : tree.Listing) (o : Out) → of_actuals l ≡ true → given path w (tree.At p f (tree.Named x (tree.list_and l tree.no_lists))) o ≡ list_given p w (meaning_of (declared path x)) o
+one_by path w p f x (tree.OfActuals q _) o h = refl
+one_by path w p f x (tree.OfPart q a n) o h = cc
+
+by_list : (path : Scopes) (w : Wanted) (p f : Place) (x : List ℕ) (xs : List list.List) (y : list.List) (o : Out) → length xs ≡ 1 → y ≡ get_or xs 0 y → of_actuals (list_tree y) ≡ true → given path w (tree.At p f (tree.Named x (lists_of (map list_tree xs)))) o ≡ list_given p w (meaning_of (declared path x)) o
+by_list path w p f x [] y o h i a = absurd (omega (arith, h))
+by_list path w p f x (z ∷ []) y o h i a = one_by path w p f x (list_tree z) o (ap (λ (q : list.List). of_actuals (list_tree q)) (sym i) ∙ a)
+by_list path w p f x (z ∷ z2 ∷ zs) y o h i a = absurd (omega (arith, h))
+
+part_by : (path : Scopes) (w : Wanted) (p f : Place) (x : List ℕ) (l : tree.Listing) (o : Out) → of_actuals l ≡ false → given path w (tree.At p f (tree.Named x (tree.list_and l tree.no_lists))) o ≡ phrase_given (variable_name (meaning_of (declared path x))) o
+part_by path w p f x (tree.OfActuals q _) o h = cc
+part_by path w p f x (tree.OfPart q a n) o h = refl
+
+more_by : (path : Scopes) (w : Wanted) (p f : Place) (x : List ℕ) (l m : tree.Listing) (lists : tree.Lists) (o : Out) → given path w (tree.At p f (tree.Named x (tree.list_and l (tree.list_and m lists)))) o ≡ phrase_given (variable_name (meaning_of (declared path x))) o
+more_by path w p f x (tree.OfActuals q _) m lists o = refl
+more_by path w p f x (tree.OfPart q a n) m lists o = refl
+
+by_more : (path : Scopes) (w : Wanted) (p f : Place) (x : List ℕ) (xs : List list.List) (y : list.List) (o : Out) → 0 < length xs → y ≡ get_or xs 0 y → (length xs ≡ 1 → of_actuals (list_tree y) ≡ false) → given path w (tree.At p f (tree.Named x (lists_of (map list_tree xs)))) o ≡ phrase_given (variable_name (meaning_of (declared path x))) o
+by_more path w p f x [] y o h i a = absurd (omega (arith, h))
+by_more path w p f x (z ∷ []) y o h i a = part_by path w p f x (list_tree z) o (ap (λ (q : list.List). of_actuals (list_tree q)) (sym i) ∙ a refl)
+by_more path w p f x (z ∷ z2 ∷ zs) y o h i a = more_by path w p f x (list_tree z) (list_tree z2) (lists_of (map list_tree zs)) o
+
+-- a name alone
+pub read_name : (path : Scopes) (w : Wanted) (p f : Place) (k : Kind) (x : List ℕ) (v : Vec list.List Global) (o : Out) → k ≡ phrase.Named x v → length v.items ≡ 0 → given path w (tree.At p f (kind_tree k)) o ≡ name_given w (meaning_of (declared path x)) o
+read_name path w p f k x v o e h = at_named path w p f k x v o e ∙ by_name path w p f x v.items o h
+
+-- with one list that is no substring list
+pub read_list : (path : Scopes) (w : Wanted) (p f : Place) (k : Kind) (x : List ℕ) (v : Vec list.List Global) (y : list.List) (o : Out) → k ≡ phrase.Named x v → length v.items ≡ 1 → y ≡ get_or v.items 0 y → of_actuals (list_tree y) ≡ true → given path w (tree.At p f (kind_tree k)) o ≡ list_given p w (meaning_of (declared path x)) o
+read_list path w p f k x v y o e h i a = at_named path w p f k x v o e ∙ by_list path w p f x v.items y o h i a
+
+-- with a substring list, or with more lists
+pub read_more : (path : Scopes) (w : Wanted) (p f : Place) (k : Kind) (x : List ℕ) (v : Vec list.List Global) (y : list.List) (o : Out) → k ≡ phrase.Named x v → 0 < length v.items → y ≡ get_or v.items 0 y → (length v.items ≡ 1 → of_actuals (list_tree y) ≡ false) → given path w (tree.At p f (kind_tree k)) o ≡ phrase_given (variable_name (meaning_of (declared path x))) o
+read_more path w p f k x v y o e h i a = at_named path w p f k x v o e ∙ by_more path w p f x v.items y o h i a
+
+-- ---- what a list holds
+
+pub parts_onto : (xs : List typed.Actual) → parts_of_actuals (actuals_onto xs typed.no_actuals) ≡ map part_of_actual xs
+parts_onto [] = refl
+parts_onto (typed.Star q ∷ xs) = ap (λ (ps : List Part). a_star ∷ ps) (parts_onto xs)
+parts_onto (typed.Given n ∷ xs) = ap (λ (ps : List Part). part_of_node n ∷ ps) (parts_onto xs)
+
+first_parts : (xs : List DraftList) (x : DraftList) → 0 < length xs → x ≡ get_or xs 0 x → parts_of_lists (lists_onto (map list_view xs) typed.no_lists) ≡ parts_of_listing (list_view x)
+first_parts [] x h i = absurd (omega (arith, h))
+first_parts (y ∷ xs) x h i = by_view (list_view y) (lists_onto (map list_view xs) typed.no_lists) ∙ ap (λ (z : DraftList). parts_of_listing (list_view z)) (sym i) where
+  by_view : (l : typed.Listing) (lists : typed.Lists) → parts_of_lists (typed.list_and l lists) ≡ parts_of_listing l
+  by_view (typed.OfActuals q _) lists = refl
+  by_view (typed.OfPart q a n) lists = refl
+
+-- the parts of the first list behind a name, where there is one
+pub no_parts : (k : DraftKind) (p : Place) (v : Vec DraftList Global) → k ≡ Named p v → length v.items ≡ 0 → parts_of_kind (kind_view k) ≡ []
+no_parts k p v e h = ap (λ z. parts_of_kind (kind_view z)) e ∙ ap parts_of_lists (vec_lists v) ∙ by_items v.items h where
+  by_items : (xs : List DraftList) → length xs ≡ 0 → parts_of_lists (lists_onto (map list_view xs) typed.no_lists) ≡ []
+  by_items [] h = refl
+  by_items (x ∷ xs) h = absurd (omega (arith, h))
+
+pub named_parts : (k : DraftKind) (p : Place) (v : Vec DraftList Global) (x : DraftList) → k ≡ Named p v → 0 < length v.items → x ≡ get_or v.items 0 x → parts_of_kind (kind_view k) ≡ parts_of_listing (list_view x)
+named_parts k p v x e h i = ap (λ z. parts_of_kind (kind_view z)) e ∙ ap parts_of_lists (vec_lists v) ∙ first_parts v.items x h i

@@ -1,0 +1,3 @@
+pub mod AllParts
+pub mod Founds
+pub mod InLists

@@ -1,0 +1,5 @@
+pub mod Found
+pub mod FoundParts
+pub mod Fronts
+pub mod FrontViews
+pub mod Items

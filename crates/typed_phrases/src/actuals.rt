@@ -1,0 +1,255 @@
+ghost use Rattle.std.specs.Prelude.{◌≡◌, ◌∷◌, [], ◌++◌, IfOk, OnOk, map};
+ghost use Rattle.std.specs.Option.{option_map};
+ghost use Rattle.algolw_tree.specs.View.{list_tree, tree};
+ghost use Rattle.algolw_typing.specs.Meanings as meanings;
+ghost use Rattle.algolw_typing.specs.Typed as typed;
+ghost use Rattle.algolw_typing.specs.Typing as rules;
+ghost use Rattle.typing_rules.specs.View as types;
+ghost use Rattle.typing_rules.specs.MeaningView as view;
+ghost use Rattle.typed_drafts.specs.DraftView.{actual_view, draft_view, kind_view};
+ghost use Rattle.typed_phrases.specs.Found.{found_view};
+ghost use Rattle.typed_drafts.specs.DraftParts.{list_view};
+ghost use Rattle.typed_phrases.specs.Fronts.{of_actuals, part_of_actual, parts_of_listing};
+ghost use Rattle.typed_phrases.specs.FrontViews.{given_out};
+ghost use Rattle.declared_names.specs.KnownPaths.{path_view};
+
+use crate::making::{Typed, given};
+use algolw_tree::{Kind, List, ListKind, Phrase};
+use declared_names::{KnownPath, meaning_of};
+use std::alloc::{AllocError, Global};
+use typed_drafts::{Draft, DraftActual, DraftKind, DraftList, DraftListKind};
+use typing_rules::{
+    Meaning, NoType, Part, ValueType, Verdict, Wanted, phrase_part, subarray_part, subarray_row,
+};
+use value_ops::Place;
+
+/// A phrase in a list, as it is read there.
+#[derive(Drop)]
+pub struct Given<'a> {
+    /// The verdict whose fault, if it is one, is still to be given.
+    pub verdict: Verdict<'a>,
+    /// What it is read as.
+    pub part: Part<'a>,
+    /// The phrase.
+    pub draft: Draft<'a>,
+}
+
+/// What is found of the parts of a list.
+#[derive(Drop)]
+pub struct Parts<'a> {
+    /// What each is read as.
+    pub parts: Vec<Part<'a>>,
+    /// The parts.
+    pub drafts: Vec<DraftActual<'a>>,
+}
+
+/// The phrase without what it gives: it stands for an array or a procedure, or may.
+fn untyped(draft: Draft<'_>) -> Draft<'_>
+    ensures { draft_view result ≡ typed.untyped (draft_view draft.entry) }
+{
+    let mut draft = draft;
+    draft.gives = None;
+    draft.statement = None;
+    draft
+}
+
+/// A phrase that is read as a phrase.
+fn phrase_given<'a>(is_variable: bool, found: Typed<'a>) -> Given<'a>
+    ensures { given_out result ≡ rules.phrase_given is_variable (found_view found.entry) }
+{
+    Given {
+        verdict: found.verdict,
+        part: phrase_part(is_variable, given(found.verdict)),
+        draft: found.draft,
+    }
+}
+
+/// A name alone that is read as this: as an array or a procedure it gives no fault, and has no type.
+fn read_as<'a>(part: Part<'a>, found: Typed<'a>) -> Given<'a>
+    ensures { given_out result ≡ rules.read_as (view.part part.entry) (found_view found.entry) }
+{
+    match part {
+        Part::Phrase(_, _) | Part::Typeless => Given {
+            verdict: found.verdict,
+            part,
+            draft: found.draft,
+        },
+        _ => Given {
+            verdict: Err(NoType::Silent),
+            part,
+            draft: untyped(found.draft),
+        },
+    }
+}
+
+/// A name alone.
+fn name_given<'a>(wanted: Wanted<'a>, means: Option<Meaning<'a>>, found: Typed<'a>) -> Given<'a>
+    ensures { given_out result ≡ rules.name_given (view.wanted wanted.entry) (option_map view.meaning means.entry) (found_view found.entry) }
+{
+    match means {
+        None => phrase_given(false, found),
+        Some(meaning) => read_as(wanted.read_name(meaning, found.verdict), found),
+    }
+}
+
+/// What a part of a list is read as, by what it gives as a phrase.
+fn part_of<'a>(actual: &DraftActual<'a>) -> Part<'a>
+    ensures { view.part result ≡ part_of_actual (actual_view actual.now) }
+{
+    match actual {
+        DraftActual::Star(_) => Part::Star,
+        DraftActual::Phrase(draft) => phrase_part(false, draft.gives),
+    }
+}
+
+/// What the parts of a list are read as, by what they give as phrases.
+fn parts_of_list<'a>(
+    alloc: Global,
+    actuals: &[DraftActual<'a>],
+) -> Result<Vec<Part<'a>>, AllocError>
+    ensures { IfOk result (λ parts. map view.part parts.items ≡ map part_of_actual (map actual_view actuals.now)) }
+{
+    let mut parts = Vec::with_capacity(alloc, actuals.len())?;
+    for actual in actuals {
+        parts.push(part_of(actual))?;
+    }
+    Ok(parts)
+}
+
+/// What the parts of a list behind a name are read as, by what they give as phrases: a substring list has none.
+#[tactic(auto, using(typed_drafts::proofs::DraftRows::vec_actuals, crate::proofs::InLists::parts_onto))]
+fn parts_of_first<'a>(alloc: Global, list: &DraftList<'a>) -> Result<Vec<Part<'a>>, AllocError>
+    ensures { IfOk result (λ parts. map view.part parts.items ≡ parts_of_listing (list_view list.now)) }
+{
+    match &list.kind {
+        DraftListKind::Actuals(actuals) => parts_of_list(alloc, actuals),
+        DraftListKind::Part(_, _) => Ok(Vec::new(alloc)),
+    }
+}
+
+/// What the parts of the first list behind a name are read as, by what they give as phrases.
+fn parts_of<'a>(alloc: Global, draft: &Draft<'a>) -> Result<Vec<Part<'a>>, AllocError>
+    ensures { IfOk result (λ parts. map view.part parts.items ≡ rules.parts_of_kind (kind_view draft.now.kind)) }
+{
+    let DraftKind::Named(_, lists) = &draft.kind else {
+        return Ok(Vec::new(alloc));
+    };
+    match lists.first() {
+        None => Ok(Vec::new(alloc)),
+        Some(list) => parts_of_first(alloc, list),
+    }
+}
+
+/// The name of an array of so many dimensions with a list behind it: a subarray where its parts say so.
+fn array_given<'a>(
+    alloc: Global,
+    place: Place,
+    wanted: Wanted<'a>,
+    element: ValueType<'a>,
+    dimensions: u32,
+    found: Typed<'a>,
+) -> Result<Given<'a>, AllocError>
+    ensures { IfOk result (λ g. given_out g ≡ rules.array_given place (view.wanted wanted.entry) (types.value_type element.entry) dimensions (rules.parts_of_kind (kind_view found.entry.draft.kind)) (found_view found.entry)) }
+{
+    let parts = parts_of(alloc, &found.draft)?;
+    if !wanted.is_subarray(&parts) {
+        return Ok(phrase_given(true, found));
+    }
+    let verdict = subarray_row(place, dimensions, &parts);
+    Ok(Given {
+        verdict,
+        part: subarray_part(wanted, element, &parts, verdict),
+        draft: untyped(found.draft),
+    })
+}
+
+/// Whether a phrase that a name begins that means this is a variable.
+fn is_variable(means: Option<Meaning<'_>>) -> bool
+    ensures { result ≡ rules.variable_name (option_map view.meaning means.entry) }
+{
+    match means {
+        None => false,
+        Some(meaning) => meaning.is_variable_name(),
+    }
+}
+
+/// A name with a list behind it.
+fn list_given<'a>(
+    alloc: Global,
+    place: Place,
+    wanted: Wanted<'a>,
+    means: Option<Meaning<'a>>,
+    found: Typed<'a>,
+) -> Result<Given<'a>, AllocError>
+    ensures { IfOk result (λ g. given_out g ≡ rules.list_given place (view.wanted wanted.entry) (option_map view.meaning means.entry) (found_view found.entry)) }
+{
+    match means {
+        Some(Meaning::Array(element, dimensions)) => {
+            array_given(alloc, place, wanted, element, dimensions, found)
+        }
+        _ => Ok(phrase_given(is_variable(means), found)),
+    }
+}
+
+/// Whether a list is no substring list.
+fn is_of_actuals(list: &List) -> bool
+    ensures { result ≡ of_actuals (list_tree list.now) }
+{
+    matches!(list.kind, ListKind::Actuals(_))
+}
+
+/// A phrase in a list, as what is wanted there.
+pub fn read<'a>(
+    alloc: Global,
+    path: &KnownPath<'_, 'a>,
+    wanted: Wanted<'a>,
+    phrase: &Phrase,
+    found: Typed<'a>,
+) -> Result<Given<'a>, AllocError>
+    ensures { IfOk result (λ g. given_out g ≡ rules.given (path_view path.now) (view.wanted wanted.entry) (tree phrase.now) (found_view found.entry)) }
+{
+    let Kind::Named(name, lists) = &phrase.kind else {
+        return Ok(phrase_given(false, found));
+    };
+    let means = meaning_of(path.declared(name));
+    match lists.first() {
+        None => Ok(name_given(wanted, means, found)),
+        Some(list) if lists.len() == 1 && is_of_actuals(list) => {
+            list_given(alloc, phrase.place, wanted, means, found)
+        }
+        Some(_) => Ok(phrase_given(is_variable(means), found)),
+    }
+}
+
+impl<'a> Parts<'a> {
+    /// No parts.
+    pub fn new(alloc: Global) -> Parts<'a>
+        ensures parts { result.parts.items ≡ [] }
+        ensures drafts { result.drafts.items ≡ [] }
+    {
+        Parts {
+            parts: Vec::new(alloc),
+            drafts: Vec::new(alloc),
+        }
+    }
+
+    /// Adds a `*`.
+    pub fn add_star(&mut self, place: Place) -> Result<(), AllocError>
+        ensures parts { OnOk result (map view.part self.new.parts.items ≡ map view.part self.old.parts.items ++ meanings.a_star ∷ []) }
+        ensures drafts { OnOk result (map actual_view self.new.drafts.items ≡ map actual_view self.old.drafts.items ++ typed.Star place ∷ []) }
+    {
+        self.parts.push(Part::Star)?;
+        self.drafts.push(DraftActual::Star(place))?;
+        Ok(())
+    }
+
+    /// Adds a phrase.
+    pub fn add(&mut self, part: Part<'a>, draft: Draft<'a>) -> Result<(), AllocError>
+        ensures parts { OnOk result (map view.part self.new.parts.items ≡ map view.part self.old.parts.items ++ view.part part.entry ∷ []) }
+        ensures drafts { OnOk result (map actual_view self.new.drafts.items ≡ map actual_view self.old.drafts.items ++ typed.Given (draft_view draft.entry) ∷ []) }
+    {
+        self.parts.push(part)?;
+        self.drafts.push(DraftActual::Phrase(draft))?;
+        Ok(())
+    }
+}

@@ -1,0 +1,98 @@
+ghost use Rattle.std.specs.Prelude.{◌≡◌, ◌++◌, ◌∷◌, [], OnOk, map};
+ghost use Rattle.algolw_typing.specs.Rows as rows;
+ghost use Rattle.algolw_typing.specs.Typed as typed;
+ghost use Rattle.algolw_typing.specs.Typing as rules;
+ghost use Rattle.algolw_typing.specs.Types as types;
+ghost use Rattle.algolw_typing.specs.Verdicts as verdicts;
+ghost use Rattle.typing_rules.specs.View as view;
+ghost use Rattle.typed_drafts.specs.DraftView.{draft_view};
+ghost use Rattle.typed_drafts.specs.DraftParts.{item_view};
+ghost use Rattle.typed_phrases.specs.Items.{block_decls, items_view};
+ghost use Rattle.typed_phrases.specs.Found.{Finds};
+
+use crate::making::{Spot, Typed, made};
+use algolw_tree::Names;
+use declared_names::places;
+use std::alloc::{AllocError, Global};
+use typed_drafts::{Draft, DraftDecl, DraftItem, DraftKind};
+use typing_rules::{NoType, PhraseType, Verdict, item_row};
+use value_ops::Place;
+
+/// What is found of the items of a block.
+#[derive(Drop)]
+pub struct Items<'a> {
+    /// The type of the last of them, unless one has none.
+    pub verdict: Verdict<'a>,
+    /// The items.
+    pub drafts: Vec<DraftItem<'a>>,
+}
+
+/// Whether there are labels.
+fn has_labels(labels: &Names) -> bool
+    ensures { result ≡ rules.has_labels labels.now.items }
+{
+    !labels.is_empty()
+}
+
+/// The verdict of an item, by that of its phrase, which begins at a place.
+pub fn item_verdict<'a>(
+    is_last: bool,
+    labels: &Names,
+    place: Place,
+    phrase: Verdict<'a>,
+) -> Verdict<'a>
+    ensures { view.verdict result ≡ verdicts.part (verdicts.type_of (view.verdict phrase.entry)) (rows.item_row is_last (rules.has_labels labels.now.items) place) }
+{
+    match phrase {
+        Ok(gives) => item_row(is_last, has_labels(labels), place, gives),
+        Err(_) => Err(NoType::Silent),
+    }
+}
+
+/// The verdict of items with one more behind them.
+fn then_item<'a>(before: Verdict<'a>, item: Verdict<'a>) -> Verdict<'a>
+    ensures { view.verdict result ≡ rules.then_item (view.verdict before.entry) (view.verdict item.entry) }
+{
+    match (before, item) {
+        (Ok(_), Ok(gives)) => Ok(gives),
+        _ => Err(NoType::Silent),
+    }
+}
+
+impl<'a> Items<'a> {
+    /// No items.
+    pub fn new(alloc: Global) -> Items<'a>
+        ensures verdict { view.verdict result.verdict ≡ verdicts.Good types.Statement }
+        ensures drafts { result.drafts.items ≡ [] }
+    {
+        Items {
+            verdict: Ok(PhraseType::Statement),
+            drafts: Vec::new(alloc),
+        }
+    }
+
+    /// Adds an item with this verdict.
+    pub fn add(
+        &mut self,
+        alloc: Global,
+        labels: &Names,
+        phrase: Draft<'a>,
+        verdict: Verdict<'a>,
+    ) -> Result<(), AllocError>
+        ensures verdict { OnOk result (view.verdict self.new.verdict ≡ rules.then_item (view.verdict self.old.verdict) (view.verdict verdict.entry)) }
+        ensures drafts { OnOk result (map item_view self.new.drafts.items ≡ map item_view self.old.drafts.items ++ typed.Labelled (rules.declare_at labels.now.items) (draft_view phrase.entry) ∷ []) }
+    {
+        self.verdict = then_item(self.verdict, verdict);
+        let labels = places(alloc, labels)?;
+        self.drafts.push(DraftItem { labels, phrase })?;
+        Ok(())
+    }
+}
+
+/// A block.
+#[tactic(auto, using(typed_drafts::proofs::DraftRows::vec_decls, typed_drafts::proofs::DraftRows::vec_items))]
+pub fn block<'a>(spot: Spot<'a>, decls: Vec<DraftDecl<'a>>, items: Items<'a>) -> Typed<'a>
+    ensures { Finds result (rules.block_out spot.entry.place spot.entry.first [] (block_decls decls.entry) (items_view items.entry)) }
+{
+    made(spot, items.verdict, DraftKind::Block(decls, items.drafts))
+}
