@@ -1,6 +1,7 @@
-ghost use Rattle.std.specs.Prelude.{◌≡◌, ◌≤◌, ◌-◌, IfOk, length, slice_index, slice_set};
+ghost use Rattle.std.specs.Prelude.{◌≡◌, ◌≤◌, Some, IfOk, length, slice_index};
 ghost use Rattle.deck_reader.specs.Batch.{account_of};
 ghost use Rattle.account_book.specs.BookView.{BookView, openings_of};
+ghost use Rattle.account_book.specs.Places.{lowered};
 
 use deck_reader::{Account, Name, find_account};
 use std::alloc::{AllocError, Global};
@@ -67,7 +68,7 @@ impl Book {
     /// Lowers the balance of an account by a charge.
     pub fn settle(&mut self, account: u32, charge: u64)
         requires { charge ≤ slice_index self.old.balances account }
-        ensures { self.new ≡ record self.old { balances = slice_set self.old.balances account (slice_index self.old.balances account - charge) } }
+        ensures { self.new ≡ record self.old { balances = lowered self.old.balances (Some account) charge } }
     {
         if let Some(balance) = self.balances.get_mut(account as usize) {
             *balance -= charge;

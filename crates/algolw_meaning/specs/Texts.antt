@@ -1,10 +1,10 @@
 -- The lines of a section.
 use Rattle.std.specs.Prelude.{ℕ, ◌+◌, List, [], ◌∷◌, ◌++◌, decimal, codes, Option, None}
+use Rattle.post_mortem.specs.Dump.{place_text}
 use Rattle.post_mortem.specs.Source.{source_text}
 use Rattle.account_book.specs.Charges.{charge}
 use Rattle.account_book.specs.declared.charges.Counts.{Counts}
 use Rattle.value_ops.specs.declared.places.Diagnostic.{Diagnostic}
-use Rattle.value_ops.specs.declared.places.Place.{Place}
 use Rattle.value_ops.specs.Diagnostics.{diagnostic_text}
 
 -- a text and a line feed
@@ -23,10 +23,6 @@ source_lines number (card ∷ cards) = source_line number None card ++ source_li
 -- what a job used, and its charge
 abbrev pub sum_line : Counts → List ℕ
 sum_line counts = line (codes "CARDS " ++ decimal counts.cards ++ codes " STEPS " ++ decimal counts.steps ++ codes " LINES " ++ decimal counts.lines ++ codes " CHARGE " ++ decimal (charge counts))
-
--- a card and a column
-unfoldable pub place_text : Place → List ℕ
-place_text p = decimal p.card ++ codes "," ++ decimal p.column
 
 -- the number of a diagnostic, and its place
 unfoldable pub diagnostic_head : Diagnostic → List ℕ

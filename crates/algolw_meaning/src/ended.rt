@@ -25,7 +25,8 @@ impl Model for Ended {
 
     ghost view = { λ e. record { job = e.job.value; body = e.body.items; counts = e.counts; ending = e.ending } };
 
-    ghost invariant = { λ e. narrow_result e.job.value ≡ record { body = e.body.items; counts = e.counts; ending = e.ending } };
+    ghost invariant = { λ e. narrow_result e.job.value
+        ≡ record { body = e.body.items; counts = e.counts; ending = e.ending } };
 }
 
 impl Ended {

@@ -11,11 +11,11 @@ use Rattle.algolw_grammar.specs.Readers.{Got, Bad, Deep}
 use Rattle.algolw_grammar.specs.Reading.{read_program}
 use Rattle.algolw_grammar.specs.Parsing.{parsed, answer_of}
 use Rattle.algolw_grammar.proofs.Verdict.{answered, names_token, names_deep}
+use Rattle.token_reader.specs.declared.stop.Stop.{Stop}
+use Rattle.token_reader.specs.declared.stop.Stop.TheVariants as stop
+use Rattle.token_reader.specs.Gives.{Fails, place_at}
 use Rattle.algolw_parser.specs.declared.parsing.Parsed.{Parsed}
 use Rattle.algolw_parser.specs.declared.parsing.Parsed.TheVariants as parsed
-use Rattle.algolw_parser.specs.declared.stop.Stop.{Stop}
-use Rattle.algolw_parser.specs.declared.stop.Stop.TheVariants as stop
-use Rattle.algolw_parser.specs.Gives.{Fails, place_at}
 use Rattle.algolw_parser.specs.Parsed.{Means, Reads}
 
 -- what is read is what is meant

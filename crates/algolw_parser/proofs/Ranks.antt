@@ -1,7 +1,7 @@
 -- How far a level of operators is above the primaries.
 use Rattle.std.proofs.Common.{ℕ}
-use Rattle.algolw_parser.specs.declared.operators.Level.{Level}
-use Rattle.algolw_parser.specs.declared.operators.Level.TheVariants.{Or, And, Sum, Term, Shift}
+use Rattle.token_reader.specs.declared.operators.Level.{Level}
+use Rattle.token_reader.specs.declared.operators.Level.TheVariants.{Or, And, Sum, Term, Shift}
 
 abbrev pub rank : Level → ℕ
 rank Or = 5

@@ -1,3 +1,1 @@
-pub mod Gives
-pub mod Levels
 pub mod Parsed

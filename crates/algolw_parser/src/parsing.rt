@@ -2,23 +2,18 @@ ghost use Rattle.std.specs.Prelude.{◌≡◌, IfOk, IsSome, IfSome};
 ghost use Rattle.algolw_tree.specs.Programs.{IsEnded};
 ghost use Rattle.algolw_tree.specs.View.{tree};
 ghost use Rattle.algolw_grammar.specs.Reading.{read_program};
+ghost use Rattle.token_reader.specs.Gives.{Gives};
 ghost use Rattle.algolw_parser.specs.declared.parsing.Parsed.TheVariants.{Bad};
-ghost use Rattle.algolw_parser.specs.Gives.{Gives};
 ghost use Rattle.algolw_parser.specs.Parsed.{Means, Reads};
 
-use crate::parser::Parser;
-use crate::stop::Stop;
+use crate::phrases::block;
 use algolw_tree::{Phrase, Symbol, Token};
 use std::alloc::{AllocError, Global};
+use token_reader::{Parser, Stop};
 use value_ops::{Diagnostic, Place};
 
-/// How many levels may nest in the program's block, which has nesting 1 of 100.
-const ROOM: u32 = 99;
-
-/// The number of a token that doesn't go on, and of one that begins nesting beyond the limit.
-const NOT_EXPECTED: u8 = 20;
-
-const TOO_DEEP: u8 = 21;
+/// How deep a program may nest, of which its block is the first level.
+const MOST_NESTING: u32 = 100;
 
 /// What parsing tokens gives.
 #[derive(Drop)]
@@ -29,22 +24,27 @@ pub enum Parsed {
     Bad(Diagnostic),
 }
 
-impl Parser<'_> {
-    /// `block [ "." ] end-of-deck`
-    #[tactic(auto, unfolding(algolw_grammar::specs::Reading::read_program_by))]
-    fn program(&mut self) -> Result<Phrase, Stop>
-        ensures { Gives tree result self.new.rest.now (read_program self.old.rest.now) }
-    {
-        let block = self.block(ROOM)?;
-        if self.at_symbol(Symbol::Stop) {
-            self.expect_symbol(Symbol::Stop)?;
-            self.expect_finish()?;
-            Ok(block)
-        } else {
-            self.expect_finish()?;
-            Ok(block)
-        }
+/// `block [ "." ] end-of-deck`
+#[tactic(auto, unfolding(algolw_grammar::specs::Reading::read_program_by))]
+fn program(parser: &mut Parser<'_>) -> Result<Phrase, Stop>
+    ensures { Gives tree result parser.new.rest.now (read_program parser.old.rest.now) }
+{
+    let block = block(parser, room())?;
+    if parser.at_symbol(Symbol::Stop) {
+        parser.expect_symbol(Symbol::Stop)?;
+        parser.expect_finish()?;
+        Ok(block)
+    } else {
+        parser.expect_finish()?;
+        Ok(block)
     }
+}
+
+/// How many levels may nest in the program's block.
+fn room() -> u32
+    ensures { result ≡ 99 }
+{
+    MOST_NESTING - 1
 }
 
 /// A diagnostic with this number, at the place of a token.
@@ -67,11 +67,11 @@ pub fn parse(alloc: Global, tokens: &[Token]) -> Result<Parsed, AllocError>
         alloc,
         rest: tokens,
     };
-    match parser.program() {
+    match program(&mut parser) {
         Ok(program) if parser.rest.is_empty() => Ok(Parsed::Tree(program)),
-        Ok(_) => Ok(bad(NOT_EXPECTED, parser.place())),
+        Ok(_) => Ok(bad(Diagnostic::NOT_EXPECTED_HERE, parser.place())),
         Err(Stop::Memory) => Err(AllocError),
-        Err(Stop::Unexpected(place)) => Ok(bad(NOT_EXPECTED, place)),
-        Err(Stop::TooDeep(place)) => Ok(bad(TOO_DEEP, place)),
+        Err(Stop::Unexpected(place)) => Ok(bad(Diagnostic::NOT_EXPECTED_HERE, place)),
+        Err(Stop::TooDeep(place)) => Ok(bad(Diagnostic::NESTING_OVER_100, place)),
     }
 }

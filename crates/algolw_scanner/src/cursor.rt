@@ -111,7 +111,7 @@ impl<'a> Cursor<'a> {
             }),
             Lexeme::Comment(rest) => match self.past(rest).after_semicolon() {
                 None => Next::Fault(Diagnostic {
-                    number: 16,
+                    number: Diagnostic::COMMENT_NOT_CLOSED,
                     place: self.place,
                 }),
                 Some(next) => Next::Skipped(next),

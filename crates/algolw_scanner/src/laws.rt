@@ -7,7 +7,8 @@ ghost use Rattle.algolw_scanner.specs.Laws.{TokensOfDecks, FaultsOfDecks, Faults
 /// A deck has at most one list of tokens, and none where its chain stops.
 pub fn one_reading()
     ensures one { (cards : List (List ℕ)) (a b : List Token) → AreTokens cards a → AreTokens cards b → a ≡ b }
-    ensures none { (cards : List (List ℕ)) (a : List Token) (d : Diagnostic) → AreTokens cards a → IsFault cards d → ⊥ }
+    ensures none { (cards : List (List ℕ)) (a : List Token) (d : Diagnostic) →
+        AreTokens cards a → IsFault cards d → ⊥ }
 {}
 
 /// The last token of a deck is its end, and no other is; the others are on its cards; places rise; and there are at

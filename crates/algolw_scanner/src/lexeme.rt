@@ -9,7 +9,7 @@ ghost use Rattle.algolw_scanner.specs.Seen.{seen};
 
 use crate::words::word;
 use algolw_tree::{Symbol, TokenKind, Word};
-use value_ops::{Name, Text};
+use value_ops::{Diagnostic, Name, Text};
 
 /// The largest number.
 const LARGEST: u64 = 2_147_483_647;
@@ -84,7 +84,8 @@ fn name_front(line: &[u8]) -> Lexeme
 /// The number of these digits, where it isn't too large.
 fn value(digits: &[u8]) -> Option<i32>
     requires { IsTrue (list_all is_ascii_digit digits.now) }
-    ensures { result ≡ (if nat_lt 2147483647 (value_from 0 digits.now) then None else Some (pos (value_from 0 digits.now))) }
+    ensures { result ≡ (if nat_lt 2147483647 (value_from 0 digits.now) then None
+        else Some (pos (value_from 0 digits.now))) }
 {
     let mut value: u64 = 0;
     for digit in digits {
@@ -114,10 +115,10 @@ fn number_front(line: &[u8]) -> Lexeme
 {
     let (digits, rest) = line.split_at(digits_length(line));
     if spoils_number(rest) {
-        return Lexeme::Fault(13);
+        return Lexeme::Fault(Diagnostic::NUMBER_NOT_AN_INTEGER);
     }
     match value(digits) {
-        None => Lexeme::Fault(12),
+        None => Lexeme::Fault(Diagnostic::INTEGER_TOO_LARGE),
         Some(n) => Lexeme::Token(TokenKind::Number(n), rest),
     }
 }
@@ -172,10 +173,10 @@ fn symbol_front(line: &[u8]) -> Lexeme
         }
     }
     match line {
-        [] => Lexeme::Fault(10),
+        [] => Lexeme::Fault(Diagnostic::CHARACTER_NOT_USED),
         [c, rest @ ..] => match short_symbol(*c) {
             Some(symbol) => Lexeme::Token(TokenKind::Symbol(symbol), rest),
-            None => Lexeme::Fault(10),
+            None => Lexeme::Fault(Diagnostic::CHARACTER_NOT_USED),
         },
     }
 }
@@ -213,14 +214,14 @@ fn quoted_front(line: &[u8]) -> Lexeme
     ensures { seen result ≡ quoted_at line.now }
 {
     let [_, inner @ ..] = line else {
-        return Lexeme::Fault(11);
+        return Lexeme::Fault(Diagnostic::STRING_NOT_CLOSED);
     };
     match literal(inner) {
-        None => Lexeme::Fault(11),
+        None => Lexeme::Fault(Diagnostic::STRING_NOT_CLOSED),
         Some((said, rest)) => match said.as_slice() {
             [] => match rest {
-                [b'"', ..] => Lexeme::Fault(11),
-                _ => Lexeme::Fault(15),
+                [b'"', ..] => Lexeme::Fault(Diagnostic::STRING_NOT_CLOSED),
+                _ => Lexeme::Fault(Diagnostic::STRING_EMPTY),
             },
             _ => Lexeme::Token(TokenKind::Quoted(said), rest),
         },
@@ -276,13 +277,13 @@ fn bits_front(line: &[u8]) -> Lexeme
     ensures { seen result ≡ bits_at line.now }
 {
     let [_, inner @ ..] = line else {
-        return Lexeme::Fault(14);
+        return Lexeme::Fault(Diagnostic::BITS_ILL_FORMED);
     };
     let (digits, rest) = inner.split_at(alphanumeric_length(inner));
     if 0 < digits.len() && digits.len() <= MOST_BITS_DIGITS && are_hex(digits) {
         Lexeme::Token(TokenKind::BitsLit(hex_value(digits)), rest)
     } else {
-        Lexeme::Fault(14)
+        Lexeme::Fault(Diagnostic::BITS_ILL_FORMED)
     }
 }
 
@@ -292,7 +293,7 @@ pub fn front(line: &[u8]) -> Lexeme
     ensures { seen result ≡ front line.now }
 {
     match line {
-        [] => Lexeme::Fault(10),
+        [] => Lexeme::Fault(Diagnostic::CHARACTER_NOT_USED),
         [b' ', rest @ ..] => Lexeme::Blank(rest),
         [c, ..] => {
             if c.is_ascii_alphabetic() {

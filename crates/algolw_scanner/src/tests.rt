@@ -1,7 +1,8 @@
 use crate::{Scanned, scan};
 use algolw_tree::{Symbol, TokenKind, WORDS};
 use deck_reader::{Job, Reader};
-use std::alloc::{AllocError, Global};
+use std::alloc::Global;
+use std::process::Abort;
 use std::test::Fail;
 
 /// The job of a deck with these cards.
@@ -94,99 +95,87 @@ fn listed(alloc: Global, scanned: &Scanned) -> Result<String, Fail> {
     }
 }
 
+/// Decks, and behind the arrow what is listed of each. Between a deck's cards stands a mark, `^`.
+const DECKS: &str = "\
+BEGIN WRITE(2 + 2) END. => BEGIN@1,1 'WRITE@1,7 (@1,12 2@1,13 +@1,15 2@1,17 )@1,18 END@1,20 .@1,23 $@2,1
+ => $@2,1
+begin write(a1_b) end. => BEGIN@1,1 'WRITE@1,7 (@1,12 'A1_B@1,13 )@1,17 END@1,19 .@1,22 $@2,1
+:=::=:=: => :=@1,1 ::@1,3 =@1,5 :=@1,6 :@1,8 $@2,1
+*** => **@1,1 *@1,3 $@2,1
+~=~~== => ~=@1,1 ~@1,3 ~=@1,4 =@1,6 $@2,1
+<=<>=><= => <=@1,1 <@1,3 >=@1,4 >@1,6 <=@1,7 $@2,1
+a|b.c,d;e => 'A@1,1 |@1,2 'B@1,3 .@1,4 'C@1,5 ,@1,6 'D@1,7 ;@1,8 'E@1,9 $@2,1
++-/() => +@1,1 -@1,2 /@1,3 (@1,4 )@1,5 $@2,1
+1.5 => 13 AT 1,1
+1. => 1@1,1 .@1,2 $@2,1
+1..5 => 1@1,1 .@1,2 .@1,3 5@1,4 $@2,1
+1' => 13 AT 1,1
+1_ => 13 AT 1,1
+1A => 13 AT 1,1
+1 A => 1@1,1 'A@1,3 $@2,1
+007 => 7@1,1 $@2,1
+2147483647 => 2147483647@1,1 $@2,1
+2147483648 => 12 AT 1,1
+99999999999A => 13 AT 1,1
+00000000002147483647 => 2147483647@1,1 $@2,1
+#F => #F@1,1 $@2,1
+#f0 #0 => #F0@1,1 #0@1,5 $@2,1
+#12345678 => #12345678@1,1 $@2,1
+#123456789 => 14 AT 1,1
+# => 14 AT 1,1
+#G => 14 AT 1,1
+#F_ => 10 AT 1,3
+# F => 14 AT 1,1
+\"\" => 15 AT 1,1
+\"\"\" => 11 AT 1,1
+\"\"\"\" => \"\"\"@1,1 $@2,1
+\"A\"\"B => 11 AT 1,4
+\"A\"\"B\" => \"A\"B\"@1,1 $@2,1
+\"A\"B\" => 11 AT 1,5
+BEGIN WRITE(\"A\"\"B) END. => 11 AT 1,16
+                                                                               \" => 11 AT 1,80
+                                                                             \"Z\" => \"Z\"@1,78 $@2,1
+\"a b;\" => \"a b;\"@1,1 $@2,1
+COMMENT A^B^C; X => 'X@3,4 $@4,1
+X COMMENT A;; => 'X@1,1 ;@1,13 $@2,1
+BEGIN COMMENT NO END => 16 AT 1,7
+comments; => 'COMMENTS@1,1 ;@1,9 $@2,1
+END X Y => END@1,1 'Y@1,7 $@2,1
+END COMMENT; X => END@1,1 $@2,1
+END^X^Y => END@1,1 'Y@3,1 $@4,1
+END END X => END@1,1 END@1,5 $@2,1
+END . X => END@1,1 .@1,5 'X@1,7 $@2,1
+AAAAAAAAAAAAAAAAAAAAAAAAAAAAAAAAAAAAAAAAAAAAAAAAAAAAAAAAAAAAAAAAAAAAAAAAAAAAAAAA => 'AAAAAAAAAAAAAAAAAAAAAAAAAAAAAAAAAAAAAAAAAAAAAAAAAAAAAAAAAAAAAAAAAAAAAAAAAAAAAAAA@1,1 $@2,1
+$ => 10 AT 1,1
+X @ => 10 AT 1,3
+X := \\ => 10 AT 1,6
+BEGIN WRITE(2147483648) END. => 12 AT 1,13
+SHLX SHL X_SHL => 'SHLX@1,1 SHL@1,6 'X_SHL@1,10 $@2,1
+goto go to => GOTO@1,1 GO@1,6 TO@1,9 $@2,1
+ABS ALGOL AND ARRAY ASSERT BEGIN BITS CASE COMPLEX DIV DO ELSE END FALSE FOR^FORTRAN GO GOTO IF INTEGER IS LOGICAL LONG NULL OF OR PROCEDURE REAL RECORD^REFERENCE REM RESULT SHL SHR SHORT STEP STRING THEN TO TRUE UNTIL VALUE WHILE => ABS@1,1 ALGOL@1,5 AND@1,11 ARRAY@1,15 ASSERT@1,21 BEGIN@1,28 BITS@1,34 CASE@1,39 COMPLEX@1,44 DIV@1,52 DO@1,56 ELSE@1,59 END@1,64 FALSE@1,68 FOR@1,74 FORTRAN@2,1 GO@2,9 GOTO@2,12 IF@2,17 INTEGER@2,20 IS@2,28 LOGICAL@2,31 LONG@2,39 NULL@2,44 OF@2,49 OR@2,52 PROCEDURE@2,55 REAL@2,65 RECORD@2,70 REFERENCE@3,1 REM@3,11 RESULT@3,15 SHL@3,22 SHR@3,26 SHORT@3,30 STEP@3,36 STRING@3,41 THEN@3,48 TO@3,53 TRUE@3,56 UNTIL@3,61 VALUE@3,67 WHILE@3,73 $@4,1
+BEGIN WRITE(\"A) END. => 11 AT 1,13
+";
+
+/// Sees that this is listed of a deck with these cards.
+fn check_deck(rt: &impl Abort, alloc: Global, cards: &[&str], wanted: &str) -> Result<(), Fail> {
+    let Some(scanned) = scanned(alloc, cards)? else {
+        return Err(Fail::from("a flaw"));
+    };
+    let all = listed(alloc, &scanned)?;
+    assert_eq!(rt; all.as_str(), wanted);
+    Ok(())
+}
+
 #[test]
 fn decks(rt: HostRuntime) -> Result<(), Fail> {
-    let cases = [
-        ([].as_slice(), "$@1,1"),
-        (&[""], "$@2,1"),
-        (
-            &["BEGIN WRITE(2 + 2) END."],
-            "BEGIN@1,1 'WRITE@1,7 (@1,12 2@1,13 +@1,15 2@1,17 )@1,18 END@1,20 .@1,23 $@2,1",
-        ),
-        (
-            &["begin write(a1_b) end."],
-            "BEGIN@1,1 'WRITE@1,7 (@1,12 'A1_B@1,13 )@1,17 END@1,19 .@1,22 $@2,1",
-        ),
-        (&[":=::=:=:"], ":=@1,1 ::@1,3 =@1,5 :=@1,6 :@1,8 $@2,1"),
-        (&["***"], "**@1,1 *@1,3 $@2,1"),
-        (&["~=~~=="], "~=@1,1 ~@1,3 ~=@1,4 =@1,6 $@2,1"),
-        (&["<=<>=><="], "<=@1,1 <@1,3 >=@1,4 >@1,6 <=@1,7 $@2,1"),
-        (
-            &["a|b.c,d;e"],
-            "'A@1,1 |@1,2 'B@1,3 .@1,4 'C@1,5 ,@1,6 'D@1,7 ;@1,8 'E@1,9 $@2,1",
-        ),
-        (&["+-/()"], "+@1,1 -@1,2 /@1,3 (@1,4 )@1,5 $@2,1"),
-        (&["1.5"], "13 AT 1,1"),
-        (&["1."], "1@1,1 .@1,2 $@2,1"),
-        (&["1..5"], "1@1,1 .@1,2 .@1,3 5@1,4 $@2,1"),
-        (&["1'"], "13 AT 1,1"),
-        (&["1_"], "13 AT 1,1"),
-        (&["1A"], "13 AT 1,1"),
-        (&["1 A"], "1@1,1 'A@1,3 $@2,1"),
-        (&["007"], "7@1,1 $@2,1"),
-        (&["2147483647"], "2147483647@1,1 $@2,1"),
-        (&["2147483648"], "12 AT 1,1"),
-        (&["99999999999A"], "13 AT 1,1"),
-        (&["00000000002147483647"], "2147483647@1,1 $@2,1"),
-        (&["#F"], "#F@1,1 $@2,1"),
-        (&["#f0 #0"], "#F0@1,1 #0@1,5 $@2,1"),
-        (&["#12345678"], "#12345678@1,1 $@2,1"),
-        (&["#123456789"], "14 AT 1,1"),
-        (&["#"], "14 AT 1,1"),
-        (&["#G"], "14 AT 1,1"),
-        (&["#F_"], "10 AT 1,3"),
-        (&["# F"], "14 AT 1,1"),
-        (&["\"\""], "15 AT 1,1"),
-        (&["\"\"\""], "11 AT 1,1"),
-        (&["\"\"\"\""], "\"\"\"@1,1 $@2,1"),
-        (&["\"A\"\"B"], "11 AT 1,4"),
-        (&["\"A\"\"B\""], "\"A\"B\"@1,1 $@2,1"),
-        (&["\"A\"B\""], "11 AT 1,5"),
-        (&["BEGIN WRITE(\"A\"\"B) END."], "11 AT 1,16"),
-        (
-            &["                                                                               \""],
-            "11 AT 1,80",
-        ),
-        (
-            &["                                                                             \"Z\""],
-            "\"Z\"@1,78 $@2,1",
-        ),
-        (&["\"a b;\""], "\"a b;\"@1,1 $@2,1"),
-        (&["COMMENT A", "B", "C; X"], "'X@3,4 $@4,1"),
-        (&["X COMMENT A;;"], "'X@1,1 ;@1,13 $@2,1"),
-        (&["BEGIN COMMENT NO END"], "16 AT 1,7"),
-        (&["comments;"], "'COMMENTS@1,1 ;@1,9 $@2,1"),
-        (&["END X Y"], "END@1,1 'Y@1,7 $@2,1"),
-        (&["END COMMENT; X"], "END@1,1 $@2,1"),
-        (&["END", "X", "Y"], "END@1,1 'Y@3,1 $@4,1"),
-        (&["END END X"], "END@1,1 END@1,5 $@2,1"),
-        (&["END . X"], "END@1,1 .@1,5 'X@1,7 $@2,1"),
-        (
-            &["AAAAAAAAAAAAAAAAAAAAAAAAAAAAAAAAAAAAAAAAAAAAAAAAAAAAAAAAAAAAAAAAAAAAAAAAAAAAAAAA"],
-            "'AAAAAAAAAAAAAAAAAAAAAAAAAAAAAAAAAAAAAAAAAAAAAAAAAAAAAAAAAAAAAAAAAAAAAAAAAAAAAAAA@1,1 $@2,1",
-        ),
-        (&["$"], "10 AT 1,1"),
-        (&["X @"], "10 AT 1,3"),
-        (&["X := \\"], "10 AT 1,6"),
-        (&["BEGIN WRITE(2147483648) END."], "12 AT 1,13"),
-        (&["SHLX SHL X_SHL"], "'SHLX@1,1 SHL@1,6 'X_SHL@1,10 $@2,1"),
-        (&["goto go to"], "GOTO@1,1 GO@1,6 TO@1,9 $@2,1"),
-        (
-            &[
-                "ABS ALGOL AND ARRAY ASSERT BEGIN BITS CASE COMPLEX DIV DO ELSE END FALSE FOR",
-                "FORTRAN GO GOTO IF INTEGER IS LOGICAL LONG NULL OF OR PROCEDURE REAL RECORD",
-                "REFERENCE REM RESULT SHL SHR SHORT STEP STRING THEN TO TRUE UNTIL VALUE WHILE",
-            ],
-            "ABS@1,1 ALGOL@1,5 AND@1,11 ARRAY@1,15 ASSERT@1,21 BEGIN@1,28 BITS@1,34 CASE@1,39 COMPLEX@1,44 DIV@1,52 DO@1,56 ELSE@1,59 END@1,64 FALSE@1,68 FOR@1,74 FORTRAN@2,1 GO@2,9 GOTO@2,12 IF@2,17 INTEGER@2,20 IS@2,28 LOGICAL@2,31 LONG@2,39 NULL@2,44 OF@2,49 OR@2,52 PROCEDURE@2,55 REAL@2,65 RECORD@2,70 REFERENCE@3,1 REM@3,11 RESULT@3,15 SHL@3,22 SHR@3,26 SHORT@3,30 STEP@3,36 STRING@3,41 THEN@3,48 TO@3,53 TRUE@3,56 UNTIL@3,61 VALUE@3,67 WHILE@3,73 $@4,1",
-        ),
-        (&["BEGIN WRITE(\"A) END."], "11 AT 1,13"),
-    ];
-    for (cards, wanted) in cases {
-        let Some(scanned) = scanned(rt.alloc(), cards)? else {
-            return Err(Fail::from(AllocError));
+    let alloc = rt.alloc();
+    check_deck(&rt, alloc, &[], "$@1,1")?;
+    for row in DECKS.lines() {
+        let Some((deck, wanted)) = row.split_once(" => ") else {
+            return Err(Fail::from("a row has an arrow"));
         };
-        let all = listed(rt.alloc(), &scanned)?;
-        assert_eq!(rt; all.as_str(), wanted);
+        let cards: Vec<&str> = deck.split('^').collect(alloc)?;
+        check_deck(&rt, alloc, cards.as_slice(), wanted)?;
     }
     Ok(())
 }

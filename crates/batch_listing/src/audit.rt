@@ -44,14 +44,21 @@ impl Audit {
         desk: &mut Desk,
     ) -> Result<Vec<u8>, AllocError>
         // The section is the one at its place, whatever was brought, and the job has its place behind it.
-        ensures text { (earlier : List JobView) → IsBehind self.old.book earlier → IfOk result (λ v. v.items ≡ section (openings_of self.old.book.accounts) earlier job.now.value) }
-        ensures behind { (earlier : List JobView) → IsBehind self.old.book earlier → OnOk result (IsBehind self.new.book (earlier ++ job.now.value ∷ [])) }
+        ensures text { (earlier : List JobView) → IsBehind self.old.book earlier → IfOk result (λ v.
+            v.items ≡ section (openings_of self.old.book.accounts) earlier job.now.value) }
+        ensures behind { (earlier : List JobView) → IsBehind self.old.book earlier
+            → OnOk result (IsBehind self.new.book (earlier ++ job.now.value ∷ [])) }
         ensures accounts { self.new.book.accounts ≡ self.old.book.accounts }
         ensures kept { OnErr result (self.new ≡ self.old) }
 
         // The job is run exactly where it is accepted and no result for it was brought.
-        ensures spared { (earlier : List JobView) → IsBehind self.old.book earlier → (accepted (openings_of self.old.book.accounts) earlier job.now.value ≡ false) ⊎ Fits brought job.now.value → (desk.new ≡ desk.old) × (self.new.reruns ≡ self.old.reruns) }
-        ensures rerun { (earlier : List JobView) → IsBehind self.old.book earlier → accepted (openings_of self.old.book.accounts) earlier job.now.value ≡ true → (Fits brought job.now.value → ⊥) → OnOk result (self.new.reruns ≡ min (self.old.reruns + 1) (2 ^ 32 - 1)) }
+        ensures spared { (earlier : List JobView) → IsBehind self.old.book earlier
+            → (accepted (openings_of self.old.book.accounts) earlier job.now.value ≡ false) ⊎ Fits brought job.now.value
+            → (desk.new ≡ desk.old) × (self.new.reruns ≡ self.old.reruns) }
+        ensures rerun { (earlier : List JobView) → IsBehind self.old.book earlier
+            → accepted (openings_of self.old.book.accounts) earlier job.now.value ≡ true
+            → (Fits brought job.now.value → ⊥)
+            → OnOk result (self.new.reruns ≡ min (self.old.reruns + 1) (2 ^ 32 - 1)) }
     {
         let mut out = Vec::new(alloc);
         lines::push_title(&mut out, job)?;
@@ -68,7 +75,8 @@ impl Audit {
 
     /// The closing lines behind the sections that were made.
     pub fn closing(&self, alloc: Global, stray: u32) -> Result<Vec<u8>, AllocError>
-        ensures { (jobs : List JobView) → IsBehind self.now.book jobs → IfOk result (λ v. v.items ≡ closing (closing_lines (openings_of self.now.book.accounts) jobs self.now.book.accounts) stray) }
+        ensures { (jobs : List JobView) → IsBehind self.now.book jobs → IfOk result (λ v.
+            v.items ≡ closing (closing_lines (openings_of self.now.book.accounts) jobs self.now.book.accounts) stray) }
     {
         let mut out = Vec::new(alloc);
         lines::push_closing_title(&mut out)?;
@@ -86,12 +94,17 @@ impl Audit {
         brought: Option<Brought>,
         desk: &mut Desk,
     ) -> Result<(), AllocError>
-        ensures text { OnOk result (out.new.items ≡ out.old.items ++ body (decision (slice_index self.old.book.balances) job.now.value) job.now.value) }
+        ensures text { OnOk result (out.new.items ≡ out.old.items
+            ++ body (decision (slice_index self.old.book.balances) job.now.value) job.now.value) }
         ensures book { OnOk result (self.new.book.balances ≡ settled self.old.book.balances (charged job.now.value)) }
         ensures accounts { self.new.book.accounts ≡ self.old.book.accounts }
         ensures kept { OnErr result (self.new ≡ self.old) }
-        ensures spared { (is_accepted (slice_index self.old.book.balances) (claim_of job.now.value) ≡ false) ⊎ Fits brought job.now.value → (desk.new ≡ desk.old) × (self.new.reruns ≡ self.old.reruns) }
-        ensures rerun { is_accepted (slice_index self.old.book.balances) (claim_of job.now.value) ≡ true → (Fits brought job.now.value → ⊥) → OnOk result (self.new.reruns ≡ min (self.old.reruns + 1) (2 ^ 32 - 1)) }
+        ensures spared { ((is_accepted (slice_index self.old.book.balances) (claim_of job.now.value) ≡ false)
+            ⊎ Fits brought job.now.value)
+            → (desk.new ≡ desk.old) × (self.new.reruns ≡ self.old.reruns) }
+        ensures rerun { is_accepted (slice_index self.old.book.balances) (claim_of job.now.value) ≡ true
+            → (Fits brought job.now.value → ⊥)
+            → OnOk result (self.new.reruns ≡ min (self.old.reruns + 1) (2 ^ 32 - 1)) }
     {
         match decide(&self.book, job) {
             Decision::Flawed(flaw) => lines::push_flawed(out, flaw),
@@ -117,7 +130,8 @@ impl Audit {
     ) -> Result<(), AllocError>
         requires { charge (narrow_result ended.now.job).counts ≤ slice_index self.old.book.balances account }
         ensures text { OnOk result (out.new.items ≡ out.old.items ++ (narrow_result ended.now.job).body) }
-        ensures book { OnOk result (self.new.book.balances ≡ lowered self.old.book.balances (Some account) (charge (narrow_result ended.now.job).counts)) }
+        ensures book { OnOk result (self.new.book.balances
+            ≡ lowered self.old.book.balances (Some account) (charge (narrow_result ended.now.job).counts)) }
         ensures accounts { self.new.book.accounts ≡ self.old.book.accounts }
         ensures reruns { self.new.reruns ≡ self.old.reruns }
         ensures kept { OnErr result (self.new ≡ self.old) }

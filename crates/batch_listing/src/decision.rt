@@ -20,7 +20,8 @@ pub enum Decision {
 /// The decision on a job where these are the balances. The account that pays can pay what the job is charged.
 pub fn decide(book: &Book, job: &Job) -> Decision
     ensures decision { result ≡ decision (slice_index book.now.balances) job.now }
-    ensures covered { (account : ℕ) → result ≡ Decision.Accepted account → charge (narrow_result job.now).counts ≤ slice_index book.now.balances account }
+    ensures covered { (account : ℕ) → result ≡ Decision.Accepted account
+        → charge (narrow_result job.now).counts ≤ slice_index book.now.balances account }
 {
     let reserve = reserve_of(job);
     match (job.flaw, job.account) {

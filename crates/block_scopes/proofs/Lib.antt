@@ -2,7 +2,6 @@ pub mod Added
 pub mod ClassAdded
 pub mod Arms
 pub mod Declared
-pub mod Firsts
 pub mod NameNumbers
 pub mod PlaceOrder
 pub mod StableSorts

@@ -9,7 +9,7 @@ use Rattle.algolw_tree.specs.declared.programs.NameInfo.{NameInfo}
 use Rattle.algolw_typing.specs.Types.{is_place}
 use Rattle.algolw_typing.specs.Laws.{place_cmp}
 use Rattle.block_scopes.specs.Resolution.{number_at}
-use Rattle.block_scopes.proofs.Firsts.{push_step, next, first_alone, kept_by, new_by}
+use Rattle.name_scopes.proofs.Firsts.{push_step, next, first_alone, kept_by, new_by}
 
 -- a name more stands at the end
 pub number_at-push : (names : List NameInfo) (i : NameInfo) (p : Place) → number_at (names ++ i ∷ []) p ≡ option_or (number_at names p) (cond (is_place i.place p) (Some (length names)) None)

@@ -3,6 +3,5 @@ pub mod ClassView
 pub mod Declaring
 pub mod Held
 pub mod Parts
-pub mod Paths
 pub mod Resolution
 pub mod Standards

@@ -1,23 +1,17 @@
 -- What resolving a program gives.
 use Rattle.std.specs.Prelude.{◌≡◌, ℕ, suc, List, [], ◌∷◌, map, Option, Some, None, true, false}
 use Rattle.std.specs.Option.{option_map}
-use Rattle.std.specs.Str.{bytes_eq}
 use Rattle.value_ops.specs.declared.places.Place.{Place}
 use Rattle.value_ops.specs.declared.places.Diagnostic.{Diagnostic}
 use Rattle.algolw_tree.specs.declared.programs.NameInfo.{NameInfo}
 use Rattle.algolw_tree.specs.declared.programs.Use.{Use}
-use Rattle.algolw_tree.specs.Tree.{Phrase, Placed}
+use Rattle.algolw_tree.specs.Tree.{Phrase}
 use Rattle.algolw_typing.specs.Types.{is_place}
 use Rattle.algolw_typing.specs.Naming.{Used, program_naming}
 use Rattle.algolw_typing.specs.Programs.{ordered_names, ordered_uses, ordered_classes}
 use Rattle.algolw_typing.specs.Faults.{in_order}
 use Rattle.block_scopes.specs.ClassView.{class_view}
 use Rattle.block_scopes.specs.declared.classes.FoundClass.{FoundClass}
-
--- where among names that are placed the first of this name stands
-abbrev pub first_of : List Placed → List ℕ → Option ℕ
-first_of [] x = None
-first_of (y ∷ ys) x = elim (bytes_eq y.0 x) [ true ↦ Some 0 | false ↦ option_map suc (first_of ys x) ]
 
 -- the number of the name that is declared at a place
 abbrev pub number_at : List NameInfo → Place → Option ℕ

@@ -4,8 +4,8 @@ ghost use Rattle.algolw_tree.specs.View.{spec_tree, formal_tree, decl_tree, item
 ghost use Rattle.algolw_typing.specs.Scopes.{group_names};
 ghost use Rattle.algolw_typing.specs.Naming.{decl_names, decls_names, label_names, block_names, formal_names};
 
-use crate::scope::Scope;
 use algolw_tree::{ClassDecl, Decl, Formal, Item, Names, TypeSpec};
+use name_scopes::Scope;
 use std::alloc::{AllocError, Global};
 use value_ops::{Name, Place};
 
@@ -31,7 +31,8 @@ fn add_groups(scope: &mut Scope, groups: &[(TypeSpec, Names)]) -> Result<(), All
 
 /// Declares a record class and its fields.
 fn add_class(scope: &mut Scope, class: &ClassDecl) -> Result<(), AllocError>
-    ensures { OnOk result (scope.new ≡ scope.old ++ class.now.name ∷ group_names (map (λ g. (spec_tree g.0, g.1.items)) class.now.groups.items)) }
+    ensures { OnOk result (scope.new ≡ scope.old
+        ++ class.now.name ∷ group_names (map (λ g. (spec_tree g.0, g.1.items)) class.now.groups.items)) }
 {
     let (name, place) = class.name;
     scope.declare(name, place)?;
@@ -75,7 +76,8 @@ fn add_labels(scope: &mut Scope, items: &[Item]) -> Result<(), AllocError>
 
 /// What a block declares.
 pub fn block_scope(alloc: Global, decls: &[Decl], items: &[Item]) -> Result<Scope, AllocError>
-    ensures { IfOk result (λ scope. scope ≡ block_names (decls_of (map decl_tree decls.now)) (items_of (map item_tree items.now))) }
+    ensures { IfOk result (λ scope.
+        scope ≡ block_names (decls_of (map decl_tree decls.now)) (items_of (map item_tree items.now))) }
 {
     let mut scope = Scope::new(alloc);
     add_decls(&mut scope, decls)?;

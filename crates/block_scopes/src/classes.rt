@@ -4,11 +4,11 @@ ghost use Rattle.algolw_typing.specs.Naming.{class_fields, fields_of};
 ghost use Rattle.algolw_typing.specs.Scopes as rules;
 ghost use Rattle.typing_rules.specs.View.{classes_of, value_type};
 ghost use Rattle.block_scopes.specs.ClassView.{field_view};
-ghost use Rattle.block_scopes.specs.Paths.{path_view};
+ghost use Rattle.name_scopes.specs.Paths.{path_view};
 
-use crate::path::ScopePath;
 use algolw_tree::{Names, TypeSpec};
 use bumpalo::Bump;
+use name_scopes::ScopePath;
 use std::alloc::{AllocError, Global};
 use typing_rules::{ClassSet, ValueType};
 use value_ops::{Name, Place};
@@ -81,7 +81,8 @@ fn add_fields<'a>(
     field_type: ValueType<'a>,
     fields: &mut Vec<Field<'a>>,
 ) -> Result<(), AllocError>
-    ensures { OnOk result (map field_view fields.new.items ≡ map field_view fields.old.items ++ fields_of names.now.items (value_type field_type.entry)) }
+    ensures { OnOk result (map field_view fields.new.items ≡ map field_view fields.old.items
+        ++ fields_of names.now.items (value_type field_type.entry)) }
 {
     for (name, _) in names {
         let field = Field {
@@ -102,7 +103,9 @@ pub fn class_fields<'a>(
     path: &ScopePath,
     groups: &[(TypeSpec, Names)],
 ) -> Result<Vec<Field<'a>>, AllocError>
-    ensures { IfOk result (λ fields. map field_view fields.items ≡ class_fields (path_view path.now) (map (λ g. (spec_tree g.0, g.1.items)) groups.now)) }
+    ensures { IfOk result (λ fields.
+        map field_view fields.items
+        ≡ class_fields (path_view path.now) (map (λ g. (spec_tree g.0, g.1.items)) groups.now)) }
 {
     let mut fields = Vec::new(alloc);
     for (spec, names) in groups {

@@ -2,7 +2,7 @@ ghost use Rattle.std.specs.Prelude.{◌≡◌, IfOk};
 ghost use Rattle.algolw_typing.specs.Naming.{inside, of_procedure};
 ghost use Rattle.block_scopes.specs.Adding.{frame_view};
 
-use crate::scope::Scope;
+use name_scopes::Scope;
 use std::alloc::AllocError;
 
 /// Where the next names are declared.

@@ -20,7 +20,8 @@ pub fn sort_names(names: &mut Vec<NameInfo>) -> Result<(), AllocError>
 
 /// Puts uses in order of place.
 pub fn sort_uses(uses: &mut Vec<FoundUse>) -> Result<(), AllocError>
-    ensures { OnOk result (map use_view uses.new.items ≡ by_place (λ found. found.place) (map use_view uses.old.items)) }
+    ensures { OnOk result (map use_view uses.new.items
+        ≡ by_place (λ found. found.place) (map use_view uses.old.items)) }
 {
     uses.sort_by_key(|found| found.place)?;
     Ok(())
@@ -28,7 +29,8 @@ pub fn sort_uses(uses: &mut Vec<FoundUse>) -> Result<(), AllocError>
 
 /// Puts record classes in order of place.
 pub fn sort_classes(classes: &mut Vec<FoundClass>) -> Result<(), AllocError>
-    ensures { OnOk result (map class_view classes.new.items ≡ by_place (λ class. class.place) (map class_view classes.old.items)) }
+    ensures { OnOk result (map class_view classes.new.items
+        ≡ by_place (λ class. class.place) (map class_view classes.old.items)) }
 {
     classes.sort_by_key(|class| class.place)?;
     Ok(())

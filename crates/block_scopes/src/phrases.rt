@@ -5,14 +5,13 @@ ghost use Rattle.algolw_tree.specs.View.{tree, link_tree, list_tree, actual_tree
 ghost use Rattle.algolw_typing.specs.Naming.{and, naming, phrases_naming, perhaps_naming, links_naming, lists_naming, actuals_naming, items_naming, bounds_naming, decls_naming, decl_naming, use_at, inside};
 ghost use Rattle.block_scopes.specs.Adding.{Adds, frame_view};
 ghost use Rattle.block_scopes.specs.Parts.{listing_naming, actual_naming, block_naming, controlled_naming};
-ghost use Rattle.block_scopes.specs.Paths.{path_view};
+ghost use Rattle.name_scopes.specs.Paths.{path_view};
 
 use crate::blocks::{block_scope, control_scope, formal_scope};
 use crate::frame::Frame;
-use crate::path::ScopePath;
 use crate::resolver::Resolver;
-use crate::scope::Scope;
 use algolw_tree::{Actual, Bound, Decl, Item, Kind, Link, List, ListKind, Phrase, ProcDecl};
+use name_scopes::{Scope, ScopePath};
 use std::alloc::AllocError;
 use value_ops::{Name, Place};
 
@@ -25,7 +24,8 @@ impl Resolver<'_> {
         path: &ScopePath,
         phrase: &Phrase,
     ) -> Result<(), AllocError>
-        ensures { OnOk result (Adds self.old self.new (naming (frame_view frame) (path_view path.now) (tree phrase.now))) }
+        ensures { OnOk result (Adds self.old self.new
+            (naming (frame_view frame) (path_view path.now) (tree phrase.now))) }
     {
         let place = phrase.place;
         match &phrase.kind {
@@ -75,7 +75,9 @@ impl Resolver<'_> {
         place: Place,
         lists: &[List],
     ) -> Result<(), AllocError>
-        ensures { OnOk result (Adds self.old self.new (and (use_at (path_view path.now) name.now place) (lists_naming (frame_view frame) (path_view path.now) (lists_of (map list_tree lists.now))))) }
+        ensures { OnOk result (Adds self.old self.new
+            (and (use_at (path_view path.now) name.now place)
+            (lists_naming (frame_view frame) (path_view path.now) (lists_of (map list_tree lists.now))))) }
     {
         self.use_name(path, name, place)?;
         self.lists(frame, path, lists)?;
@@ -91,7 +93,9 @@ impl Resolver<'_> {
         left: &Phrase,
         right: &Phrase,
     ) -> Result<(), AllocError>
-        ensures { OnOk result (Adds self.old self.new (and (naming (frame_view frame) (path_view path.now) (tree left.now)) (naming (frame_view frame) (path_view path.now) (tree right.now)))) }
+        ensures { OnOk result (Adds self.old self.new
+            (and (naming (frame_view frame) (path_view path.now) (tree left.now))
+            (naming (frame_view frame) (path_view path.now) (tree right.now)))) }
     {
         self.phrase(frame, path, left)?;
         self.phrase(frame, path, right)?;
@@ -107,7 +111,9 @@ impl Resolver<'_> {
         first: &Phrase,
         links: &[Link],
     ) -> Result<(), AllocError>
-        ensures { OnOk result (Adds self.old self.new (and (naming (frame_view frame) (path_view path.now) (tree first.now)) (links_naming (frame_view frame) (path_view path.now) (links_of (map link_tree links.now))))) }
+        ensures { OnOk result (Adds self.old self.new
+            (and (naming (frame_view frame) (path_view path.now) (tree first.now))
+            (links_naming (frame_view frame) (path_view path.now) (links_of (map link_tree links.now))))) }
     {
         self.phrase(frame, path, first)?;
         self.links(frame, path, links)?;
@@ -124,7 +130,9 @@ impl Resolver<'_> {
         name: &Name,
         place: Place,
     ) -> Result<(), AllocError>
-        ensures { OnOk result (Adds self.old self.new (and (naming (frame_view frame) (path_view path.now) (tree operand.now)) (use_at (path_view path.now) name.now place))) }
+        ensures { OnOk result (Adds self.old self.new
+            (and (naming (frame_view frame) (path_view path.now) (tree operand.now))
+            (use_at (path_view path.now) name.now place))) }
     {
         self.phrase(frame, path, operand)?;
         self.use_name(path, name, place)?;
@@ -141,7 +149,10 @@ impl Resolver<'_> {
         then: &Phrase,
         otherwise: &Option<Box<Phrase>>,
     ) -> Result<(), AllocError>
-        ensures { OnOk result (Adds self.old self.new (and (naming (frame_view frame) (path_view path.now) (tree condition.now)) (and (naming (frame_view frame) (path_view path.now) (tree then.now)) (perhaps_naming (frame_view frame) (path_view path.now) (optional_tree otherwise.now))))) }
+        ensures { OnOk result (Adds self.old self.new
+            (and (naming (frame_view frame) (path_view path.now) (tree condition.now))
+            (and (naming (frame_view frame) (path_view path.now) (tree then.now))
+            (perhaps_naming (frame_view frame) (path_view path.now) (optional_tree otherwise.now))))) }
     {
         self.phrase(frame, path, condition)?;
         self.phrase(frame, path, then)?;
@@ -158,7 +169,9 @@ impl Resolver<'_> {
         subject: &Phrase,
         parts: &[Phrase],
     ) -> Result<(), AllocError>
-        ensures { OnOk result (Adds self.old self.new (and (naming (frame_view frame) (path_view path.now) (tree subject.now)) (phrases_naming (frame_view frame) (path_view path.now) (phrases_of (map tree parts.now))))) }
+        ensures { OnOk result (Adds self.old self.new
+            (and (naming (frame_view frame) (path_view path.now) (tree subject.now))
+            (phrases_naming (frame_view frame) (path_view path.now) (phrases_of (map tree parts.now))))) }
     {
         self.phrase(frame, path, subject)?;
         self.phrases(frame, path, parts)?;
@@ -175,7 +188,10 @@ impl Resolver<'_> {
         step: &Option<Box<Phrase>>,
         limit: &Phrase,
     ) -> Result<(), AllocError>
-        ensures { OnOk result (Adds self.old self.new (and (naming (frame_view frame) (path_view path.now) (tree start.now)) (and (perhaps_naming (frame_view frame) (path_view path.now) (optional_tree step.now)) (naming (frame_view frame) (path_view path.now) (tree limit.now))))) }
+        ensures { OnOk result (Adds self.old self.new
+            (and (naming (frame_view frame) (path_view path.now) (tree start.now))
+            (and (perhaps_naming (frame_view frame) (path_view path.now) (optional_tree step.now))
+            (naming (frame_view frame) (path_view path.now) (tree limit.now))))) }
     {
         self.phrase(frame, path, start)?;
         self.perhaps(frame, path, step)?;
@@ -193,7 +209,11 @@ impl Resolver<'_> {
         values: &[Phrase],
         body: &Phrase,
     ) -> Result<(), AllocError>
-        ensures { OnOk result (Adds self.old self.new (controlled_naming (frame_view frame) (path_view path.now) scope.now (phrases_naming (inside (frame_view frame) scope.now) (path_view path.now) (phrases_of (map tree values.now))) (tree body.now))) }
+        ensures { OnOk result (Adds self.old self.new
+            (controlled_naming (frame_view frame) (path_view path.now) scope.now
+            (phrases_naming (inside (frame_view frame) scope.now) (path_view path.now)
+            (phrases_of (map tree values.now)))
+            (tree body.now))) }
     {
         let inner = self.declares(frame, scope)?;
         self.phrases(inner, path, values)?;
@@ -209,7 +229,8 @@ impl Resolver<'_> {
         path: &ScopePath,
         phrase: &Option<Box<Phrase>>,
     ) -> Result<(), AllocError>
-        ensures { OnOk result (Adds self.old self.new (perhaps_naming (frame_view frame) (path_view path.now) (optional_tree phrase.now))) }
+        ensures { OnOk result (Adds self.old self.new
+            (perhaps_naming (frame_view frame) (path_view path.now) (optional_tree phrase.now))) }
     {
         match phrase {
             Some(phrase) => self.phrase(frame, path, phrase),
@@ -225,7 +246,8 @@ impl Resolver<'_> {
         path: &ScopePath,
         phrases: &[Phrase],
     ) -> Result<(), AllocError>
-        ensures { OnOk result (Adds self.old self.new (phrases_naming (frame_view frame) (path_view path.now) (phrases_of (map tree phrases.now)))) }
+        ensures { OnOk result (Adds self.old self.new
+            (phrases_naming (frame_view frame) (path_view path.now) (phrases_of (map tree phrases.now)))) }
     {
         for phrase in phrases {
             self.phrase(frame, path, phrase)?;
@@ -236,7 +258,8 @@ impl Resolver<'_> {
     /// Resolves the operands of a chain.
     #[cycle(phrases)]
     fn links(&mut self, frame: Frame, path: &ScopePath, links: &[Link]) -> Result<(), AllocError>
-        ensures { OnOk result (Adds self.old self.new (links_naming (frame_view frame) (path_view path.now) (links_of (map link_tree links.now)))) }
+        ensures { OnOk result (Adds self.old self.new
+            (links_naming (frame_view frame) (path_view path.now) (links_of (map link_tree links.now)))) }
     {
         for link in links {
             self.phrase(frame, path, &link.right)?;
@@ -247,7 +270,8 @@ impl Resolver<'_> {
     /// Resolves the lists behind a name.
     #[cycle(phrases)]
     fn lists(&mut self, frame: Frame, path: &ScopePath, lists: &[List]) -> Result<(), AllocError>
-        ensures { OnOk result (Adds self.old self.new (lists_naming (frame_view frame) (path_view path.now) (lists_of (map list_tree lists.now)))) }
+        ensures { OnOk result (Adds self.old self.new
+            (lists_naming (frame_view frame) (path_view path.now) (lists_of (map list_tree lists.now)))) }
     {
         for list in lists {
             self.list(frame, path, list)?;
@@ -258,7 +282,8 @@ impl Resolver<'_> {
     /// Resolves a list behind a name.
     #[cycle(phrases)]
     fn list(&mut self, frame: Frame, path: &ScopePath, list: &List) -> Result<(), AllocError>
-        ensures { OnOk result (Adds self.old self.new (listing_naming (frame_view frame) (path_view path.now) (list_tree list.now))) }
+        ensures { OnOk result (Adds self.old self.new
+            (listing_naming (frame_view frame) (path_view path.now) (list_tree list.now))) }
     {
         match &list.kind {
             ListKind::Actuals(actuals) => self.actuals(frame, path, actuals),
@@ -274,7 +299,8 @@ impl Resolver<'_> {
         path: &ScopePath,
         actuals: &[Actual],
     ) -> Result<(), AllocError>
-        ensures { OnOk result (Adds self.old self.new (actuals_naming (frame_view frame) (path_view path.now) (actuals_of (map actual_tree actuals.now)))) }
+        ensures { OnOk result (Adds self.old self.new
+            (actuals_naming (frame_view frame) (path_view path.now) (actuals_of (map actual_tree actuals.now)))) }
     {
         for actual in actuals {
             self.actual(frame, path, actual)?;
@@ -285,7 +311,8 @@ impl Resolver<'_> {
     /// Resolves an actual.
     #[cycle(phrases)]
     fn actual(&mut self, frame: Frame, path: &ScopePath, actual: &Actual) -> Result<(), AllocError>
-        ensures { OnOk result (Adds self.old self.new (actual_naming (frame_view frame) (path_view path.now) (actual_tree actual.now))) }
+        ensures { OnOk result (Adds self.old self.new
+            (actual_naming (frame_view frame) (path_view path.now) (actual_tree actual.now))) }
     {
         match actual {
             Actual::Star(_) => Ok(()),
@@ -296,7 +323,8 @@ impl Resolver<'_> {
     /// Resolves the phrases of a block.
     #[cycle(phrases)]
     fn items(&mut self, frame: Frame, path: &ScopePath, items: &[Item]) -> Result<(), AllocError>
-        ensures { OnOk result (Adds self.old self.new (items_naming (frame_view frame) (path_view path.now) (items_of (map item_tree items.now)))) }
+        ensures { OnOk result (Adds self.old self.new
+            (items_naming (frame_view frame) (path_view path.now) (items_of (map item_tree items.now)))) }
     {
         for item in items {
             self.phrase(frame, path, &item.phrase)?;
@@ -307,7 +335,8 @@ impl Resolver<'_> {
     /// Resolves the bounds of arrays.
     #[cycle(phrases)]
     fn bounds(&mut self, frame: Frame, path: &ScopePath, bounds: &[Bound]) -> Result<(), AllocError>
-        ensures { OnOk result (Adds self.old self.new (bounds_naming (frame_view frame) (path_view path.now) (bounds_of (map bound_tree bounds.now)))) }
+        ensures { OnOk result (Adds self.old self.new
+            (bounds_naming (frame_view frame) (path_view path.now) (bounds_of (map bound_tree bounds.now)))) }
     {
         for bound in bounds {
             self.both(frame, path, &bound.lower, &bound.upper)?;
@@ -324,7 +353,9 @@ impl Resolver<'_> {
         decls: &[Decl],
         items: &[Item],
     ) -> Result<(), AllocError>
-        ensures { OnOk result (Adds self.old self.new (block_naming (frame_view frame) (path_view path.now) (decls_of (map decl_tree decls.now)) (items_of (map item_tree items.now)))) }
+        ensures { OnOk result (Adds self.old self.new
+            (block_naming (frame_view frame) (path_view path.now)
+            (decls_of (map decl_tree decls.now)) (items_of (map item_tree items.now)))) }
     {
         let scope = block_scope(self.alloc, decls, items)?;
         let inner = self.declares(frame, &scope)?;
@@ -343,7 +374,9 @@ impl Resolver<'_> {
         path: &ScopePath,
         decls: &[Decl],
     ) -> Result<(), AllocError>
-        ensures { OnOk result (Adds self.old self.new (decls_naming (frame_view frame) (path_view around.now) (path_view path.now) (decls_of (map decl_tree decls.now)))) }
+        ensures { OnOk result (Adds self.old self.new
+            (decls_naming (frame_view frame) (path_view around.now) (path_view path.now)
+            (decls_of (map decl_tree decls.now)))) }
     {
         for decl in decls {
             self.decl(frame, around, path, decl)?;
@@ -360,7 +393,8 @@ impl Resolver<'_> {
         path: &ScopePath,
         decl: &Decl,
     ) -> Result<(), AllocError>
-        ensures { OnOk result (Adds self.old self.new (decl_naming (frame_view frame) (path_view around.now) (path_view path.now) (decl_tree decl.now))) }
+        ensures { OnOk result (Adds self.old self.new
+            (decl_naming (frame_view frame) (path_view around.now) (path_view path.now) (decl_tree decl.now))) }
     {
         match decl {
             Decl::Simple(spec, _) => self.spec(path, spec),
@@ -381,7 +415,8 @@ impl Resolver<'_> {
         path: &ScopePath,
         procedure: &ProcDecl,
     ) -> Result<(), AllocError>
-        ensures { OnOk result (Adds self.old self.new (decl_naming (frame_view frame) (path_view path.now) (path_view path.now) (procedure_tree procedure.now))) }
+        ensures { OnOk result (Adds self.old self.new
+            (decl_naming (frame_view frame) (path_view path.now) (path_view path.now) (procedure_tree procedure.now))) }
     {
         self.perhaps_spec(path, &procedure.result)?;
         self.formals(path, &procedure.formals)?;

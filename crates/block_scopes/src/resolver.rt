@@ -4,14 +4,13 @@ ghost use Rattle.algolw_tree.specs.View.{spec_tree, formal_tree, class_tree};
 ghost use Rattle.algolw_typing.specs.Naming.{declares, inside, use_at, uses_of, spec_uses, result_uses, formal_uses, group_uses, class_naming};
 ghost use Rattle.block_scopes.specs.Adding.{Adds, frame_view};
 ghost use Rattle.block_scopes.specs.Declaring.{declaring};
-ghost use Rattle.block_scopes.specs.Paths.{path_view};
+ghost use Rattle.name_scopes.specs.Paths.{path_view};
 
 use crate::classes::{FoundClass, class_fields};
 use crate::frame::Frame;
-use crate::path::ScopePath;
-use crate::scope::Scope;
 use algolw_tree::{ClassDecl, Formal, NameInfo, Names, TypeSpec};
 use bumpalo::Bump;
+use name_scopes::{Scope, ScopePath};
 use std::alloc::{AllocError, Global};
 use value_ops::{Diagnostic, Name, Place};
 
@@ -66,7 +65,10 @@ impl<'a> Resolver<'a> {
         let place = info.place;
         self.names.push(info)?;
         if again {
-            self.faults.push(Diagnostic { place, number: 31 })?;
+            self.faults.push(Diagnostic {
+                place,
+                number: Diagnostic::NAME_DECLARED_TWICE,
+            })?;
         }
         Ok(())
     }
@@ -102,7 +104,10 @@ impl<'a> Resolver<'a> {
         let target = path.declared(name);
         self.uses.push(FoundUse { place, target })?;
         if target.is_none() {
-            self.faults.push(Diagnostic { place, number: 30 })?;
+            self.faults.push(Diagnostic {
+                place,
+                number: Diagnostic::NAME_NOT_DECLARED,
+            })?;
         }
         Ok(())
     }
@@ -133,7 +138,8 @@ impl<'a> Resolver<'a> {
         path: &ScopePath,
         spec: &Option<TypeSpec>,
     ) -> Result<(), AllocError>
-        ensures { OnOk result (Adds self.old self.new (result_uses (path_view path.now) (option_map spec_tree spec.now))) }
+        ensures { OnOk result (Adds self.old self.new
+            (result_uses (path_view path.now) (option_map spec_tree spec.now))) }
     {
         match spec {
             Some(spec) => self.spec(path, spec),
@@ -143,7 +149,8 @@ impl<'a> Resolver<'a> {
 
     /// Notes the classes of the types of formals.
     pub fn formals(&mut self, path: &ScopePath, formals: &[Formal]) -> Result<(), AllocError>
-        ensures { OnOk result (Adds self.old self.new (formal_uses (path_view path.now) (map formal_tree formals.now))) }
+        ensures { OnOk result (Adds self.old self.new
+            (formal_uses (path_view path.now) (map formal_tree formals.now))) }
     {
         for formal in formals {
             self.perhaps_spec(path, &formal.spec)?;
@@ -153,7 +160,8 @@ impl<'a> Resolver<'a> {
 
     /// Notes the classes of the types of fields.
     fn groups(&mut self, path: &ScopePath, groups: &[(TypeSpec, Names)]) -> Result<(), AllocError>
-        ensures { OnOk result (Adds self.old self.new (group_uses (path_view path.now) (map (λ g. (spec_tree g.0, g.1.items)) groups.now))) }
+        ensures { OnOk result (Adds self.old self.new
+            (group_uses (path_view path.now) (map (λ g. (spec_tree g.0, g.1.items)) groups.now))) }
     {
         for group in groups {
             self.spec(path, &group.0)?;

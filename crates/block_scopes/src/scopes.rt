@@ -6,11 +6,11 @@ use crate::classes::FoundClass;
 use crate::frame::Frame;
 use crate::numbers::numbered;
 use crate::order::{sort_classes, sort_faults, sort_names, sort_uses};
-use crate::path::ScopePath;
 use crate::resolver::Resolver;
 use crate::standard::standard_scope;
 use algolw_tree::{NameInfo, Phrase, Use};
 use bumpalo::Bump;
+use name_scopes::ScopePath;
 use std::alloc::{AllocError, Global};
 use value_ops::Diagnostic;
 
@@ -33,7 +33,8 @@ pub fn resolve<'a>(
     arena: &'a Bump,
     phrase: &Phrase,
 ) -> Result<Scopes<'a>, AllocError>
-    ensures { IfOk result (λ s. IsResolution (tree phrase.now) s.names.items s.uses.items s.classes.items s.faults.items) }
+    ensures { IfOk result (λ s.
+        IsResolution (tree phrase.now) s.names.items s.uses.items s.classes.items s.faults.items) }
 {
     let mut resolver = Resolver::new(alloc, arena);
     let standard = standard_scope(alloc)?;

@@ -2,7 +2,7 @@ ghost use Rattle.std.specs.Prelude.{◌≡◌, ◌<◌, IfOk, IsTrue, length};
 ghost use Rattle.algolw_typing.specs.Naming.{standard_names};
 ghost use Rattle.block_scopes.specs.Standards.{on_no_card, all_short};
 
-use crate::scope::Scope;
+use name_scopes::Scope;
 use std::alloc::{AllocError, Global};
 use value_ops::{Name, Place};
 

@@ -9,7 +9,7 @@ use Rattle.deck_reader.specs.declared.reader.Reader.{Reader}
 use Rattle.deck_reader.specs.declared.reading.Reading.{Reading}
 use Rattle.deck_reader.specs.Cards.{cleaned, parts, all_but_last, ended, under_way, unless_empty, cards}
 use Rattle.deck_reader.specs.Forms.{is_head}
-use Rattle.deck_reader.specs.Batch.{passes, too_large}
+use Rattle.deck_reader.specs.Batch.{passes}
 use Rattle.deck_reader.specs.Reading.{IsReading}
 use Rattle.deck_reader.specs.Fed.{HasRead, StandsFor}
 use Rattle.deck_reader.proofs.Cuts.{ended-more, under_way-more, ended-feed, under_way-feed, ended-prefix}

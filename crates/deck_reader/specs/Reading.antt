@@ -1,5 +1,5 @@
 -- What a reader stands for, while the cards of a batch come.
-use Rattle.std.specs.Prelude.{ℕ, ◌≡◌, ◌≤◌, ◌+◌, ◌^◌, ◌-◌, Bool, true, false, ◌&&◌, ◌||◌, not, min, nat_le, List, [], ◌∷◌, ◌++◌, length, Option, Some, None, is_some, count_by, if◌then◌else◌}
+use Rattle.std.specs.Prelude.{ℕ, ◌≡◌, ◌≤◌, ◌<◌, ◌+◌, ◌^◌, ◌-◌, Bool, true, false, ◌&&◌, ◌||◌, not, min, nat_le, nat_lt, List, [], ◌∷◌, ◌++◌, length, Option, Some, None, is_some, count_by, if◌then◌else◌, Result, OnOk}
 use Rattle.std.specs.List.{list_any, before_first, after_first}
 use Rattle.std.specs.Option.{option_map}
 use Rattle.deck_reader.specs.declared.batch.Account.{Account}
@@ -81,3 +81,11 @@ pub record IsReading (reading : Reading) (cards : List (List ℕ)) : Type 0 wher
   pub heads_are : reading.heads ≡ count_by is_head cards
   pub stray_is : reading.stray ≡ strays cards
   pub at_stage : AtStage reading.stage reading.accounts cards reading.jobs
+
+-- a count of stray cards, with a card that is one unless it is blank
+abbrev pub with_stray : ℕ → List ℕ → ℕ
+with_stray count card = if nat_lt 0 (length card) then min (count + 1) (2 ^ 32 - 1) else count
+
+-- where a call ends well, it has taken a card: the reading of any cards became that of these and this one behind them
+abbrev pub TakesCard : {A E : Type 0} → Reading → Reading → List ℕ → Result A E → Type 0
+TakesCard old new card result = (cards : List (List ℕ)) → length cards < 2 ^ 31 → IsReading old cards → OnOk result (IsReading new (cards ++ card ∷ []))

@@ -3,7 +3,8 @@ ghost use Rattle.deck_reader.specs.Forms.{parted};
 
 /// What stands before and behind the first of these bytes, where there is one.
 pub fn split_once(bytes: &[u8], byte: u8) -> Option<(&[u8], &[u8])>
-    ensures parts { MatchOption result (parted byte bytes.now ≡ None) (λ p. parted byte bytes.now ≡ Some (p.0.now, p.1.now)) }
+    ensures parts { MatchOption result (parted byte bytes.now ≡ None) (λ p.
+        parted byte bytes.now ≡ Some (p.0.now, p.1.now)) }
     ensures shorter { IfSome result (λ p. length p.0.now + length p.1.now + 1 ≡ length bytes.now) }
 {
     let at = place_of(bytes, byte)?;

@@ -42,7 +42,8 @@ fn put_turned(card: &mut Vec<u8>, bytes: &[u8]) -> Result<(), AllocError>
 
 /// What the first byte turns into, and what stands behind the bytes that it took: the not sign takes two.
 fn turn_first(first: u8, behind: &[u8]) -> (u8, &[u8])
-    ensures turned { with_tildes (without_tabs (first ∷ behind.now)) ≡ result.0 ∷ with_tildes (without_tabs result.1.now) }
+    ensures turned { with_tildes (without_tabs (first ∷ behind.now)) ≡
+        result.0 ∷ with_tildes (without_tabs result.1.now) }
     ensures shorter { length result.1.now ≤ length behind.now }
 {
     if first == 0xC2

@@ -111,7 +111,8 @@ pub fn job_card(card: &[u8]) -> Option<JobCard>
 /// What stands behind a control word in column 1, which a blank or the card's end follows.
 fn behind_word<'a>(card: &'a [u8], word: &[u8]) -> Option<&'a [u8]>
     requires { folded word.now ≡ word.now }
-    ensures { MatchOption result (is_control word.now card.now ≡ false) (λ rest. (is_control word.now card.now ≡ true) × (rest.now ≡ drop (length word.now) card.now)) }
+    ensures { MatchOption result (is_control word.now card.now ≡ false) (λ rest.
+        (is_control word.now card.now ≡ true) × (rest.now ≡ drop (length word.now) card.now)) }
 {
     let (front, rest) = card.split_at_checked(word.len())?;
     if is_word(front, word) && ends_a_word(rest) {
@@ -222,7 +223,8 @@ fn balance_of(digits: &[u8]) -> Option<u64>
 
 /// The field before the first comma, and what stands behind the comma.
 fn next_field(bytes: &[u8]) -> (&[u8], Option<&[u8]>)
-    ensures { MatchOption result.1 (fields bytes.now ≡ result.0.now ∷ []) (λ rest. fields bytes.now ≡ result.0.now ∷ fields rest.now) }
+    ensures { MatchOption result.1 (fields bytes.now ≡ result.0.now ∷ []) (λ rest.
+        fields bytes.now ≡ result.0.now ∷ fields rest.now) }
 {
     match split_once(bytes, b',') {
         None => (bytes, None),
@@ -232,7 +234,8 @@ fn next_field(bytes: &[u8]) -> (&[u8], Option<&[u8]>)
 
 /// The steps and the lines that settings give, in either order and each at most once.
 fn settings_of(settings: Option<&[u8]>) -> Option<(Option<u32>, Option<u32>)>
-    ensures { MatchOption settings.entry (result ≡ Some (None, None)) (λ given. result ≡ option_map counted_settings (settings_of (fields given.now))) }
+    ensures { MatchOption settings.entry (result ≡ Some (None, None)) (λ given.
+        result ≡ option_map counted_settings (settings_of (fields given.now))) }
 {
     let Some(settings) = settings else {
         return Some((None, None));

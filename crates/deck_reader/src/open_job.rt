@@ -151,7 +151,9 @@ impl OpenJob {
 
     /// The job, whose cards have all come.
     pub fn close(self, alloc: Global) -> Job
-        ensures { result ≡ job_from self.number self.cards self.has_long self.has_foul self.card self.account self.deck self.data_cards }
+        ensures { result ≡
+            job_from self.number self.cards self.has_long self.has_foul self.card self.account
+            self.deck self.data_cards }
     {
         let OpenJob {
             number,

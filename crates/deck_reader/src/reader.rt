@@ -1,4 +1,4 @@
-ghost use Rattle.std.specs.Prelude.{◌≡◌, ◌≤◌, ◌<◌, ◌^◌, ◌++◌, ◌∷◌, [], List, ℕ, true, false, None, Some, IfOk, IfErr, OnOk, IsErrOf, length};
+ghost use Rattle.std.specs.Prelude.{◌≡◌, ◌≤◌, ◌++◌, [], List, ℕ, true, false, None, Some, IfOk, IfErr, OnOk, IsErrOf, length};
 ghost use Rattle.deck_reader.specs.Batch.{batch, passes, too_large};
 
 use crate::batch::Batch;
@@ -52,7 +52,7 @@ pub struct Reader {
 
 impl Reader {
     ghost use Rattle.deck_reader.specs.Fed.{StandsFor, refusal};
-    ghost use Rattle.deck_reader.specs.Reading.{IsReading};
+    ghost use Rattle.deck_reader.specs.Reading.{IsReading, TakesCard};
     ghost use Rattle.deck_reader.specs.Cards.{cleaned, cards};
 
     /// A reader that was fed nothing.
@@ -71,11 +71,15 @@ impl Reader {
 
     /// Takes the next bytes. They are refused as too large exactly where all bytes fed so far pass a limit.
     pub fn feed(&mut self, bytes: &[u8]) -> Result<(), FeedError>
-        ensures fed { (input : List ℕ) → StandsFor self.old input → OnOk result (StandsFor self.new (input ++ bytes.now)) }
-        ensures fits { (input : List ℕ) → StandsFor self.old input → OnOk result (passes (input ++ bytes.now) ≡ false) }
-        ensures large { (input : List ℕ) → StandsFor self.old input → IsErrOf result FeedError.TooLarge → passes (input ++ bytes.now) ≡ true }
+        ensures fed { (input : List ℕ) → StandsFor self.old input →
+            OnOk result (StandsFor self.new (input ++ bytes.now)) }
+        ensures fits { (input : List ℕ) → StandsFor self.old input →
+            OnOk result (passes (input ++ bytes.now) ≡ false) }
+        ensures large { (input : List ℕ) → StandsFor self.old input → IsErrOf result FeedError.TooLarge →
+            passes (input ++ bytes.now) ≡ true }
         ensures refused { IfErr result (λ e. refusal self.new ≡ Some e) }
-        ensures kept { (e : FeedError) → refusal self.old ≡ Some e → (result ≡ Err e) × (self.new ≡ self.old) }
+        ensures kept { (e : FeedError) → refusal self.old ≡ Some e →
+            (result ≡ Err e) × (self.new ≡ self.old) }
     {
         if let Some(error) = self.refused {
             return Err(error);
@@ -92,7 +96,8 @@ impl Reader {
         ensures batch { (input : List ℕ) → StandsFor self input → IfOk result (λ b. b ≡ batch input) }
         ensures few { IfOk result (λ b. length b.accounts ≤ 500) }
         ensures fits { (input : List ℕ) → StandsFor self input → OnOk result (too_large input ≡ false) }
-        ensures large { (input : List ℕ) → StandsFor self input → IsErrOf result FeedError.TooLarge → too_large input ≡ true }
+        ensures large { (input : List ℕ) → StandsFor self input → IsErrOf result FeedError.TooLarge →
+            too_large input ≡ true }
         ensures kept { (e : FeedError) → refusal self ≡ Some e → result ≡ Err e }
     {
         if let Some(error) = self.refused {
@@ -106,9 +111,12 @@ impl Reader {
     }
 
     fn take(&mut self, bytes: &[u8]) -> Result<(), FeedError>
-        ensures fed { (input : List ℕ) → StandsFor self.old input → OnOk result (StandsFor self.new (input ++ bytes.now)) }
-        ensures fits { (input : List ℕ) → StandsFor self.old input → OnOk result (passes (input ++ bytes.now) ≡ false) }
-        ensures large { (input : List ℕ) → StandsFor self.old input → IsErrOf result FeedError.TooLarge → passes (input ++ bytes.now) ≡ true }
+        ensures fed { (input : List ℕ) → StandsFor self.old input →
+            OnOk result (StandsFor self.new (input ++ bytes.now)) }
+        ensures fits { (input : List ℕ) → StandsFor self.old input →
+            OnOk result (passes (input ++ bytes.now) ≡ false) }
+        ensures large { (input : List ℕ) → StandsFor self.old input → IsErrOf result FeedError.TooLarge →
+            passes (input ++ bytes.now) ≡ true }
     {
         if bytes.len() > MOST_BYTES || self.fed > MOST_BYTES - bytes.len() {
             return Err(FeedError::TooLarge);
@@ -129,7 +137,8 @@ impl Reader {
 
     /// Reads the card under way, where the input ends with one.
     fn end_input(&mut self) -> Result<(), AllocError>
-        ensures read { (input : List ℕ) → StandsFor self.old input → OnOk result (IsReading self.new.reading (cards input)) }
+        ensures read { (input : List ℕ) → StandsFor self.old input →
+            OnOk result (IsReading self.new.reading (cards input)) }
     {
         if self.under_way.is_empty() {
             return Ok(());
@@ -140,7 +149,7 @@ impl Reader {
 
     /// Reads the card under way, which has ended.
     fn end_card(&mut self) -> Result<(), AllocError>
-        ensures read { (cards : List (List ℕ)) → length cards < 2 ^ 31 → IsReading self.old.reading cards → OnOk result (IsReading self.new.reading (cards ++ cleaned self.old.under_way.items ∷ [])) }
+        ensures read { TakesCard self.old.reading self.new.reading (cleaned self.old.under_way.items) result }
         ensures empty { OnOk result (self.new.under_way.items ≡ []) }
         ensures fed { self.new.fed ≡ self.old.fed }
         ensures refused { self.new.refused ≡ self.old.refused }

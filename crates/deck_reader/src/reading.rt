@@ -1,4 +1,4 @@
-ghost use Rattle.std.specs.Prelude.{◌≡◌, ◌≤◌, ◌<◌, ◌+◌, ◌^◌, ◌-◌, ◌++◌, ◌∷◌, [], ℕ, List, true, min, nat_lt, if◌then◌else◌, IfOk, OnOk, length};
+ghost use Rattle.std.specs.Prelude.{◌≡◌, ◌≤◌, [], ℕ, List, true, IfOk, OnOk, length};
 ghost use Rattle.deck_reader.specs.Batch.{batch_of};
 ghost use Rattle.deck_reader.specs.Forms.{is_head};
 
@@ -37,7 +37,7 @@ pub struct Reading {
 }
 
 impl Reading {
-    ghost use Rattle.deck_reader.specs.Reading.{IsReading, Closes};
+    ghost use Rattle.deck_reader.specs.Reading.{IsReading, TakesCard, Closes, with_stray};
 
     /// Before the first card.
     pub fn new(alloc: Global) -> Reading
@@ -54,7 +54,7 @@ impl Reading {
 
     /// Takes the next card.
     pub fn take_card(&mut self, alloc: Global, card: &[u8]) -> Result<(), AllocError>
-        ensures { (cards : List (List ℕ)) → length cards < 2 ^ 31 → IsReading self.old cards → OnOk result (IsReading self.new (cards ++ card.now ∷ [])) }
+        ensures { TakesCard self.old self.new card.now result }
     {
         if forms::is_head(card) {
             return self.begin_job(alloc, card);
@@ -81,7 +81,7 @@ impl Reading {
     /// Begins the job of a job card, and ends the one before.
     fn begin_job(&mut self, alloc: Global, head: &[u8]) -> Result<(), AllocError>
         requires { is_head head.now ≡ true }
-        ensures { (cards : List (List ℕ)) → length cards < 2 ^ 31 → IsReading self.old cards → OnOk result (IsReading self.new (cards ++ head.now ∷ [])) }
+        ensures { TakesCard self.old self.new head.now result }
     {
         self.close_job(alloc)?;
         self.heads = self.heads.saturating_add(1);
@@ -102,7 +102,7 @@ impl Reading {
 
     /// Counts a stray card, unless it is blank.
     fn count_stray(&mut self, card: &[u8])
-        ensures { self.new ≡ record self.old { stray = if nat_lt 0 (length card.now) then min (self.old.stray + 1) (2 ^ 32 - 1) else self.old.stray } }
+        ensures { self.new ≡ record self.old { stray = with_stray self.old.stray card.now } }
     {
         if !card.is_empty() {
             self.stray = self.stray.saturating_add(1);
@@ -111,7 +111,8 @@ impl Reading {
 
     /// The batch, whose cards have all come.
     pub fn finish(mut self, alloc: Global) -> Result<Batch, AllocError>
-        ensures batch { (cards : List (List ℕ)) → IsReading self cards → IfOk result (λ b. b ≡ batch_of cards) }
+        ensures batch { (cards : List (List ℕ)) → IsReading self cards →
+            IfOk result (λ b. b ≡ batch_of cards) }
         ensures few { IfOk result (λ b. length b.accounts ≤ 500) }
     {
         self.close_job(alloc)?;

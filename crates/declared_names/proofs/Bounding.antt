@@ -52,7 +52,7 @@ array_found around path d s ns v n o e count found =
 
 -- what is found of its bounds, and kept
 pub bounds_kept : (around : Scopes) (d : Decl) (s : TypeSpec) (ns : Vec (List ℕ × Place) Global) (v : Vec Bound Global) (xs : List Bound) (b : Bounds) → d ≡ Array s ns v → xs ≡ v.items
-    → b.faults.items ≡ (typed_bounds around (bounds_of (map bound_tree xs))).inside → (bounds_view b).bounds ≡ (typed_bounds around (bounds_of (map bound_tree xs))).bounds → bounds_view b ≡ decl_bounds around (decl_tree d)
+    → b.faults.now ≡ (typed_bounds around (bounds_of (map bound_tree xs))).inside → (bounds_view b).bounds ≡ (typed_bounds around (bounds_of (map bound_tree xs))).bounds → bounds_view b ≡ decl_bounds around (decl_tree d)
 bounds_kept around d s ns v xs b e items faults bounds =
     ap (λ (fs : List Diagnostic). at_bounds fs (bounds_view b).bounds) faults ∙ ap (at_bounds (typed_bounds around (bounds_of (map bound_tree xs))).inside) bounds
     ∙ ap (λ ys. typed_bounds around (bounds_of (map bound_tree ys))) items ∙ sym (ap (decl_bounds around) (array_tree d s ns v e)) where

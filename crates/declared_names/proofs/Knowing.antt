@@ -7,7 +7,7 @@ use Rattle.algolw_tree.specs.Tree.{Placed}
 use Rattle.algolw_typing.specs.Names as names
 use Rattle.algolw_typing.specs.Names.{in_scope}
 use Rattle.algolw_typing.specs.Scopes as rules
-use Rattle.block_scopes.specs.Resolution.{first_of}
+use Rattle.name_scopes.specs.Firsts.{first_of}
 use Rattle.declared_names.specs.KnownView.{entry_of, entries_of}
 use Rattle.declared_names.specs.declared.known.Known.{Known}
 

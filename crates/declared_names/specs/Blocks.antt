@@ -12,7 +12,7 @@ use Rattle.typed_drafts.specs.declared.drafts.DraftDecl.{DraftDecl}
 use Rattle.declared_names.specs.declared.blocks.Bounds.{Bounds}
 
 abbrev pub bounds_view : Bounds → BoundsOut
-bounds_view b = record { inside = b.faults.items; bounds = bounds_onto (map bound_view b.drafts.items) typed.no_bounds }
+bounds_view b = record { inside = b.faults.now; bounds = bounds_onto (map bound_view b.drafts.now) typed.no_bounds }
 
 -- the bounds of a declaration, which none but an array's has
 abbrev pub decl_bounds : Scopes → tree.Decl → BoundsOut

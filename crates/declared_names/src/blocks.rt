@@ -24,21 +24,21 @@ use typing_rules::{Meaning, NoType, Reading, Verdict, bound_row};
 use value_ops::{Diagnostic, Name, Place};
 
 /// What is found of the bounds of a declaration, with their faults.
-#[derive(Drop)]
+#[derive(Clone, Copy)]
 pub struct Bounds<'a> {
     /// The faults in them.
-    pub faults: Vec<Diagnostic>,
+    pub faults: &'a [Diagnostic],
     /// The bounds.
-    pub drafts: Vec<DraftBound<'a>>,
+    pub drafts: &'a [DraftBound<'a>],
 }
 
 /// The bounds of what is no array.
-pub fn no_bounds<'a>(alloc: Global) -> Bounds<'a>
+pub fn no_bounds<'a>() -> Bounds<'a>
     ensures { bounds_view result ≡ rules.no_more_bounds }
 {
     Bounds {
-        faults: Vec::new(alloc),
-        drafts: Vec::new(alloc),
+        faults: &[],
+        drafts: &[],
     }
 }
 
@@ -47,7 +47,8 @@ pub fn no_bounds<'a>(alloc: Global) -> Bounds<'a>
 /// Declares the fields of a class, of which nothing is known.
 #[tactic(auto, using(crate::proofs::Placing::entries_append))]
 fn name_fields(class: &ClassDecl, scope: &mut KnownScope) -> Result<(), AllocError>
-    ensures { OnOk result (scope.new ≡ scope.old ++ scopes.entries (scopes.group_names (class_tree class.now).groups) None) }
+    ensures { OnOk result (scope.new ≡ scope.old
+        ++ scopes.entries (scopes.group_names (class_tree class.now).groups) None) }
 {
     for (_, names) in &class.groups {
         declare_names(names, None, scope)?;
@@ -112,7 +113,8 @@ pub fn names_of_block<'a>(
     decls: &[Decl],
     items: &[Item],
 ) -> Result<KnownScope<'a>, AllocError>
-    ensures { IfOk result (λ s. s ≡ scopes.names_of_block (decls_of (map decl_tree decls.now)) (items_of (map item_tree items.now))) }
+    ensures { IfOk result (λ s. s ≡ scopes.names_of_block (decls_of (map decl_tree decls.now))
+        (items_of (map item_tree items.now))) }
 {
     let mut scope = KnownScope::new(alloc);
     name_decls(decls, &mut scope)?;
@@ -131,7 +133,9 @@ fn declare_simple<'a>(
     names: &Names,
     scope: &mut KnownScope<'a>,
 ) -> Result<(), AllocError>
-    ensures { OnOk result (scope.new ≡ scope.old ++ scopes.entries names.now.items (scopes.good (scopes.spec_faults (path_view path.now) (spec_tree spec.now)) (meanings.a_variable (scopes.spec_type (path_view path.now) (spec_tree spec.now))))) }
+    ensures { OnOk result (scope.new ≡ scope.old
+        ++ scopes.entries names.now.items (scopes.good (scopes.spec_faults (path_view path.now) (spec_tree spec.now))
+        (meanings.a_variable (scopes.spec_type (path_view path.now) (spec_tree spec.now))))) }
 {
     let mut faults = Vec::new(alloc);
     spec_faults(path, spec, &mut faults)?;
@@ -150,7 +154,11 @@ fn declare_array<'a>(
     found: &[Diagnostic],
     scope: &mut KnownScope<'a>,
 ) -> Result<(), AllocError>
-    ensures { OnOk result (scope.new ≡ scope.old ++ scopes.entries names.now.items (scopes.good (rules.array_faults (path_view path.now) (spec_tree spec.now) names.now.items dimensions ++ scopes.without_twice found.now) (meanings.an_array (scopes.spec_type (path_view path.now) (spec_tree spec.now)) dimensions))) }
+    ensures { OnOk result (scope.new ≡ scope.old
+        ++ scopes.entries names.now.items (scopes.good
+        (rules.array_faults (path_view path.now) (spec_tree spec.now) names.now.items dimensions
+        ++ scopes.without_twice found.now) (meanings.an_array
+        (scopes.spec_type (path_view path.now) (spec_tree spec.now)) dimensions))) }
 {
     let Ok(count) = u32::try_from(dimensions) else {
         return Err(AllocError);
@@ -168,7 +176,7 @@ fn add_without_twice(found: &[Diagnostic], faults: &mut Vec<Diagnostic>) -> Resu
     ensures { OnOk result (faults.new.items ≡ faults.old.items ++ scopes.without_twice found.now) }
 {
     for fault in found {
-        if fault.number != 31 {
+        if fault.number != Diagnostic::NAME_DECLARED_TWICE {
             faults.push(*fault)?;
         }
     }
@@ -183,7 +191,8 @@ fn declare_procedure<'a>(
     procedure: &ProcDecl,
     scope: &mut KnownScope<'a>,
 ) -> Result<(), AllocError>
-    ensures { (around : scopes.Scopes) → OnOk result (scope.new ≡ scope.old ++ rules.meanings_of around (path_view path.now) (procedure_tree procedure.now)) }
+    ensures { (around : scopes.Scopes) → OnOk result
+        (scope.new ≡ scope.old ++ rules.meanings_of around (path_view path.now) (procedure_tree procedure.now)) }
 {
     let mut faults = Vec::new(alloc);
     result_faults(path, &procedure.result, &mut faults)?;
@@ -205,10 +214,11 @@ pub fn declare<'a>(
     arena: &'a Bump,
     path: &KnownPath<'_, 'a>,
     decl: &Decl,
-    bounds: &Bounds<'a>,
+    bounds: Bounds<'a>,
     scope: &mut KnownScope<'a>,
 ) -> Result<(), AllocError>
-    ensures { (around : scopes.Scopes) → bounds_view bounds.now ≡ decl_bounds around (decl_tree decl.now) → OnOk result (scope.new ≡ scope.old ++ rules.meanings_of around (path_view path.now) (decl_tree decl.now)) }
+    ensures { (around : scopes.Scopes) → bounds_view bounds.entry ≡ decl_bounds around (decl_tree decl.now)
+        → OnOk result (scope.new ≡ scope.old ++ rules.meanings_of around (path_view path.now) (decl_tree decl.now)) }
 {
     match decl {
         Decl::Simple(spec, names) => declare_simple(alloc, arena, path, spec, names, scope),
@@ -221,7 +231,7 @@ pub fn declare<'a>(
                 spec,
                 names,
                 dimensions,
-                &bounds.faults,
+                bounds.faults,
                 scope,
             )
         }
@@ -234,7 +244,8 @@ pub fn declare<'a>(
 
 /// The verdict of bounds, at `::`.
 pub fn bound_verdict<'a>(place: Place, lower: Verdict<'a>, upper: Verdict<'a>) -> Verdict<'a>
-    ensures { view.verdict result ≡ verdicts.two_parts (verdicts.type_of (view.verdict lower.entry)) (verdicts.type_of (view.verdict upper.entry)) (rows.bound_row place) }
+    ensures { view.verdict result ≡ verdicts.two_parts (verdicts.type_of (view.verdict lower.entry))
+        (verdicts.type_of (view.verdict upper.entry)) (rows.bound_row place) }
 {
     match (lower, upper) {
         (Ok(lower), Ok(upper)) => bound_row(place, lower, upper),
@@ -244,24 +255,23 @@ pub fn bound_verdict<'a>(place: Place, lower: Verdict<'a>, upper: Verdict<'a>) -
 
 /// Simple variables.
 pub fn simple<'a>(
-    alloc: Global,
     arena: &'a Bump,
     path: &KnownPath<'_, 'a>,
     spec: &TypeSpec,
     names: &Names,
     faults: &mut Vec<Diagnostic>,
 ) -> Result<DraftDecl<'a>, AllocError>
-    ensures { IfOk result (λ d. DeclFound faults.old.items faults.new.items d (rules.simple_out (path_view path.now) (spec_tree spec.now) names.now.items)) }
+    ensures { IfOk result (λ d. DeclFound faults.old.items faults.new.items d
+        (rules.simple_out (path_view path.now) (spec_tree spec.now) names.now.items)) }
 {
     spec_faults(path, spec, faults)?;
     let simple_type = spec_type(arena, path, spec)?;
-    Ok(DraftDecl::Simple(simple_type, places(alloc, names)?))
+    Ok(DraftDecl::Simple(simple_type, places(arena, names)?))
 }
 
 /// Arrays of so many dimensions, with these bounds.
-#[tactic(auto, using(typed_drafts::proofs::DraftRows::vec_bounds))]
+#[tactic(auto, using(typed_drafts::proofs::DraftRows::slice_bounds))]
 pub fn array<'a>(
-    alloc: Global,
     arena: &'a Bump,
     path: &KnownPath<'_, 'a>,
     spec: &TypeSpec,
@@ -270,29 +280,31 @@ pub fn array<'a>(
     bounds: Bounds<'a>,
     faults: &mut Vec<Diagnostic>,
 ) -> Result<DraftDecl<'a>, AllocError>
-    ensures { IfOk result (λ d. DeclFound faults.old.items faults.new.items d (rules.array_out (path_view path.now) (spec_tree spec.now) names.now.items dimensions (bounds_view bounds.entry))) }
+    ensures { IfOk result (λ d. DeclFound faults.old.items faults.new.items d
+        (rules.array_out (path_view path.now) (spec_tree spec.now) names.now.items dimensions
+        (bounds_view bounds.entry))) }
 {
     spec_faults(path, spec, faults)?;
     dimension_fault(names, dimensions, faults)?;
-    faults.extend_from_slice(&bounds.faults)?;
+    faults.extend_from_slice(bounds.faults)?;
     let element_type = spec_type(arena, path, spec)?;
-    let names = places(alloc, names)?;
+    let names = places(arena, names)?;
     Ok(DraftDecl::Array(element_type, names, bounds.drafts))
 }
 
 /// A record class.
 pub fn class<'a>(
-    alloc: Global,
     arena: &'a Bump,
     path: &KnownPath<'_, 'a>,
     class: &ClassDecl,
     faults: &mut Vec<Diagnostic>,
 ) -> Result<DraftDecl<'a>, AllocError>
-    ensures { IfOk result (λ d. DeclFound faults.old.items faults.new.items d (rules.class_out (path_view path.now) (class_tree class.now))) }
+    ensures { IfOk result (λ d. DeclFound faults.old.items faults.new.items d
+        (rules.class_out (path_view path.now) (class_tree class.now))) }
 {
     group_faults(path, class, faults)?;
     Ok(DraftDecl::Class(DraftClass {
         name: class.name.1,
-        groups: draft_groups(alloc, arena, path, class)?,
+        groups: draft_groups(arena, path, class)?,
     }))
 }

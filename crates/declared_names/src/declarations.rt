@@ -8,12 +8,14 @@ ghost use Rattle.algolw_typing.specs.Verdicts.{diagnostic};
 ghost use Rattle.typing_rules.specs.View.{classes_of, value_type};
 ghost use Rattle.typing_rules.specs.MeaningView as view;
 ghost use Rattle.typed_drafts.specs.DraftView.{formal_view, placed_view};
+ghost use Rattle.declared_names.specs.Heads.{typed_formal};
 ghost use Rattle.declared_names.specs.KnownPaths.{path_view};
 ghost use Rattle.typed_drafts.specs.Groups.{group_view};
 
 use crate::known::{Known, KnownPath, KnownScope};
 use algolw_tree::{ClassDecl, Formal, Mode, Names, TypeSpec};
 use bumpalo::Bump;
+use bumpalo::collections::into_bump_slice;
 use std::alloc::{AllocError, Global};
 use typed_drafts::{DraftFormal, Places};
 use typing_rules::{ClassSet, FormalType, Meaning, Reading, ValueType};
@@ -33,12 +35,13 @@ pub fn class_fault(
     class: &(Name, Place),
     faults: &mut Vec<Diagnostic>,
 ) -> Result<(), AllocError>
-    ensures { OnOk result (faults.new.items ≡ faults.old.items ++ rules.class_fault class.now (declared (path_view path.now) class.now.0)) }
+    ensures { OnOk result (faults.new.items ≡ faults.old.items
+        ++ rules.class_fault class.now (declared (path_view path.now) class.now.0)) }
 {
     match path.declared(&class.0) {
-        None => add_fault(30, class.1, faults),
+        None => add_fault(Diagnostic::NAME_NOT_DECLARED, class.1, faults),
         Some(known) if known.is_class => Ok(()),
-        Some(_) => add_fault(33, class.1, faults),
+        Some(_) => add_fault(Diagnostic::NOT_A_RECORD_CLASS, class.1, faults),
     }
 }
 
@@ -48,7 +51,8 @@ fn class_faults(
     classes: &Names,
     faults: &mut Vec<Diagnostic>,
 ) -> Result<(), AllocError>
-    ensures { OnOk result (faults.new.items ≡ faults.old.items ++ rules.class_faults (path_view path.now) classes.now.items) }
+    ensures { OnOk result (faults.new.items ≡ faults.old.items
+        ++ rules.class_faults (path_view path.now) classes.now.items) }
 {
     for class in classes {
         class_fault(path, class, faults)?;
@@ -69,14 +73,15 @@ pub(crate) fn spec_faults(
     spec: &TypeSpec,
     faults: &mut Vec<Diagnostic>,
 ) -> Result<(), AllocError>
-    ensures { OnOk result (faults.new.items ≡ faults.old.items ++ rules.spec_faults (path_view path.now) (spec_tree spec.now)) }
+    ensures { OnOk result (faults.new.items ≡ faults.old.items
+        ++ rules.spec_faults (path_view path.now) (spec_tree spec.now)) }
 {
     match spec {
         TypeSpec::Bits(Some((width, place))) if written(*width) != 32 => {
-            add_fault(32, *place, faults)
+            add_fault(Diagnostic::NUMBER_OUT_OF_RANGE, *place, faults)
         }
         TypeSpec::Str(Some((length, place))) if !(1..=256).contains(&written(*length)) => {
-            add_fault(32, *place, faults)
+            add_fault(Diagnostic::NUMBER_OUT_OF_RANGE, *place, faults)
         }
         TypeSpec::Reference(classes) => class_faults(path, classes, faults),
         _ => Ok(()),
@@ -124,7 +129,8 @@ pub(crate) fn result_faults(
     spec: &Option<TypeSpec>,
     faults: &mut Vec<Diagnostic>,
 ) -> Result<(), AllocError>
-    ensures { OnOk result (faults.new.items ≡ faults.old.items ++ rules.result_faults (path_view path.now) (option_map spec_tree spec.now)) }
+    ensures { OnOk result (faults.new.items ≡ faults.old.items
+        ++ rules.result_faults (path_view path.now) (option_map spec_tree spec.now)) }
 {
     match spec {
         None => Ok(()),
@@ -138,7 +144,8 @@ pub(crate) fn result_type<'a>(
     path: &KnownPath,
     spec: &Option<TypeSpec>,
 ) -> Result<Option<ValueType<'a>>, AllocError>
-    ensures { IfOk result (λ t. option_map value_type t ≡ rules.result_type (path_view path.now) (option_map spec_tree spec.now)) }
+    ensures { IfOk result (λ t. option_map value_type t
+        ≡ rules.result_type (path_view path.now) (option_map spec_tree spec.now)) }
 {
     match spec {
         None => Ok(None),
@@ -155,7 +162,11 @@ pub(crate) fn dimension_fault(
     ensures { OnOk result (faults.new.items ≡ faults.old.items ++ rules.dimension_fault names.now.items dimensions) }
 {
     match names.first() {
-        Some((_, place)) if dimensions > 8 => add_fault(32, *place, faults),
+        Some((_, place)) if dimensions > 8 => add_fault(
+            Diagnostic::NUMBER_OUT_OF_RANGE,
+            *place,
+            faults,
+        ),
         _ => Ok(()),
     }
 }
@@ -166,7 +177,8 @@ fn formal_fault(
     formal: &Formal,
     faults: &mut Vec<Diagnostic>,
 ) -> Result<(), AllocError>
-    ensures { OnOk result (faults.new.items ≡ faults.old.items ++ rules.formal_fault (path_view path.now) (formal_tree formal.now)) }
+    ensures { OnOk result (faults.new.items ≡ faults.old.items
+        ++ rules.formal_fault (path_view path.now) (formal_tree formal.now)) }
 {
     result_faults(path, &formal.spec, faults)?;
     dimension_fault(&formal.names, formal.dimensions as usize, faults)
@@ -178,7 +190,8 @@ pub(crate) fn formal_faults(
     formals: &[Formal],
     faults: &mut Vec<Diagnostic>,
 ) -> Result<(), AllocError>
-    ensures { OnOk result (faults.new.items ≡ faults.old.items ++ rules.formal_faults (path_view path.now) (map formal_tree formals.now)) }
+    ensures { OnOk result (faults.new.items ≡ faults.old.items
+        ++ rules.formal_faults (path_view path.now) (map formal_tree formals.now)) }
 {
     for formal in formals {
         formal_fault(path, formal, faults)?;
@@ -245,7 +258,8 @@ fn declare_each<'a>(
     means: Option<Meaning<'a>>,
     scope: &mut KnownScope<'a>,
 ) -> Result<(), AllocError>
-    ensures { OnOk result (scope.new ≡ scope.old ++ rules.formal_entries names.now.items (view.reading reading.entry) (option_map view.meaning means.entry)) }
+    ensures { OnOk result (scope.new ≡ scope.old
+        ++ rules.formal_entries names.now.items (view.reading reading.entry) (option_map view.meaning means.entry)) }
 {
     for (name, place) in names {
         let known = Known {
@@ -266,7 +280,10 @@ fn add_formal_types<'a>(
     formal: &Formal,
     types: &mut Vec<FormalType<'a>>,
 ) -> Result<(), AllocError>
-    ensures { OnOk result (map view.formal_type types.new.items ≡ map view.formal_type types.old.items ++ rules.same_formals formal.now.names.items (rules.formal_type formal.now.mode formal.now.dimensions (rules.result_type (path_view path.now) (option_map spec_tree formal.now.spec)))) }
+    ensures { OnOk result (map view.formal_type types.new.items ≡ map view.formal_type types.old.items
+        ++ rules.same_formals formal.now.names.items
+        (rules.formal_type formal.now.mode formal.now.dimensions
+        (rules.result_type (path_view path.now) (option_map spec_tree formal.now.spec)))) }
 {
     let spec = result_type(arena, path, &formal.spec)?;
     let formal_type = formal_type(formal.mode, formal.dimensions, spec);
@@ -283,7 +300,8 @@ pub(crate) fn formal_types<'a>(
     path: &KnownPath,
     formals: &[Formal],
 ) -> Result<&'a [FormalType<'a>], AllocError>
-    ensures { IfOk result (λ ts. map view.formal_type ts.now ≡ rules.formal_types (path_view path.now) (map formal_tree formals.now)) }
+    ensures { IfOk result (λ ts. map view.formal_type ts.now
+        ≡ rules.formal_types (path_view path.now) (map formal_tree formals.now)) }
 {
     let mut types = Vec::new(alloc);
     for formal in formals {
@@ -300,7 +318,8 @@ fn declare_formal<'a>(
     formal: &Formal,
     scope: &mut KnownScope<'a>,
 ) -> Result<(), AllocError>
-    ensures { OnOk result (scope.new ≡ scope.old ++ rules.formal_scope (path_view path.now) (formal_tree formal.now ∷ [])) }
+    ensures { OnOk result (scope.new ≡ scope.old
+        ++ rules.formal_scope (path_view path.now) (formal_tree formal.now ∷ [])) }
 {
     let mut faults = Vec::new(alloc);
     formal_fault(path, formal, &mut faults)?;
@@ -326,48 +345,47 @@ pub fn formal_scope<'a>(
     Ok(scope)
 }
 
-/// The places of names.
-pub fn places(alloc: Global, names: &Names) -> Result<Places, AllocError>
-    ensures { IfOk result (λ ps. placed_view ps.items ≡ declare_at names.now.items) }
+/// The places of names, in the arena.
+pub fn places<'a>(arena: &'a Bump, names: &Names) -> Result<Places<'a>, AllocError>
+    ensures { IfOk result (λ ps. placed_view ps.now ≡ declare_at names.now.items) }
 {
-    let mut places = Vec::with_capacity(alloc, names.len())?;
+    let mut places = Vec::with_capacity(arena, names.len())?;
     for (_, place) in names {
         places.push(*place)?;
     }
-    Ok(places)
+    Ok(into_bump_slice(places))
 }
 
 /// Formals that are declared together as a draft.
 fn draft_formal<'a>(
-    alloc: Global,
     arena: &'a Bump,
     path: &KnownPath,
     formal: &Formal,
 ) -> Result<DraftFormal<'a>, AllocError>
-    ensures { IfOk result (λ f. formal_view f ≡ record { type = rules.result_type (path_view path.now) (option_map spec_tree formal.now.spec); mode = formal.now.mode; names = declare_at formal.now.names.items; dimensions = formal.now.dimensions }) }
+    ensures { IfOk result (λ f. formal_view f ≡ typed_formal (path_view path.now) (formal_tree formal.now)) }
 {
     Ok(DraftFormal {
         spec: result_type(arena, path, &formal.spec)?,
         mode: formal.mode,
-        names: places(alloc, &formal.names)?,
+        names: places(arena, &formal.names)?,
         dimensions: formal.dimensions,
     })
 }
 
-/// The formals as drafts.
+/// The formals as drafts, in the arena.
 pub(crate) fn draft_formals<'a>(
-    alloc: Global,
     arena: &'a Bump,
     path: &KnownPath,
     formals: &[Formal],
-) -> Result<Vec<DraftFormal<'a>>, AllocError>
-    ensures { IfOk result (λ fs. map formal_view fs.items ≡ typed_formals (path_view path.now) (map formal_tree formals.now)) }
+) -> Result<&'a [DraftFormal<'a>], AllocError>
+    ensures { IfOk result (λ fs. map formal_view fs.now
+        ≡ typed_formals (path_view path.now) (map formal_tree formals.now)) }
 {
-    let mut drafts = Vec::with_capacity(alloc, formals.len())?;
+    let mut drafts = Vec::with_capacity(arena, formals.len())?;
     for formal in formals {
-        drafts.push(draft_formal(alloc, arena, path, formal)?)?;
+        drafts.push(draft_formal(arena, path, formal)?)?;
     }
-    Ok(drafts)
+    Ok(into_bump_slice(drafts))
 }
 
 /// Adds the faults of the fields of a class.
@@ -376,7 +394,8 @@ pub(crate) fn group_faults(
     class: &ClassDecl,
     faults: &mut Vec<Diagnostic>,
 ) -> Result<(), AllocError>
-    ensures { OnOk result (faults.new.items ≡ faults.old.items ++ rules.group_faults (path_view path.now) (class_tree class.now).groups) }
+    ensures { OnOk result (faults.new.items ≡ faults.old.items
+        ++ rules.group_faults (path_view path.now) (class_tree class.now).groups) }
 {
     for (spec, _) in &class.groups {
         spec_faults(path, spec, faults)?;
@@ -384,20 +403,20 @@ pub(crate) fn group_faults(
     Ok(())
 }
 
-/// The fields of a class as drafts.
+/// The fields of a class as drafts, in the arena.
 pub(crate) fn draft_groups<'a>(
-    alloc: Global,
     arena: &'a Bump,
     path: &KnownPath,
     class: &ClassDecl,
-) -> Result<Vec<(ValueType<'a>, Places)>, AllocError>
-    ensures { IfOk result (λ gs. map group_view gs.items ≡ typed_groups (path_view path.now) (class_tree class.now).groups) }
+) -> Result<&'a [(ValueType<'a>, Places<'a>)], AllocError>
+    ensures { IfOk result (λ gs. map group_view gs.now
+        ≡ typed_groups (path_view path.now) (class_tree class.now).groups) }
 {
-    let mut groups = Vec::with_capacity(alloc, class.groups.len())?;
+    let mut groups = Vec::with_capacity(arena, class.groups.len())?;
     for (spec, names) in &class.groups {
-        groups.push((spec_type(arena, path, spec)?, places(alloc, names)?))?;
+        groups.push((spec_type(arena, path, spec)?, places(arena, names)?))?;
     }
-    Ok(groups)
+    Ok(into_bump_slice(groups))
 }
 
 /// The types of the fields of a class, in the arena.
@@ -407,7 +426,8 @@ fn field_types<'a>(
     path: &KnownPath,
     class: &ClassDecl,
 ) -> Result<&'a [ValueType<'a>], AllocError>
-    ensures { IfOk result (λ ts. map value_type ts.now ≡ rules.field_types (path_view path.now) (class_tree class.now).groups) }
+    ensures { IfOk result (λ ts. map value_type ts.now
+        ≡ rules.field_types (path_view path.now) (class_tree class.now).groups) }
 {
     let mut types = Vec::new(alloc);
     for (spec, names) in &class.groups {
@@ -423,7 +443,8 @@ fn add_types<'a>(
     field_type: ValueType<'a>,
     types: &mut Vec<ValueType<'a>>,
 ) -> Result<(), AllocError>
-    ensures { OnOk result (map value_type types.new.items ≡ map value_type types.old.items ++ rules.same_types names.now.items (value_type field_type.entry)) }
+    ensures { OnOk result (map value_type types.new.items ≡ map value_type types.old.items
+        ++ rules.same_types names.now.items (value_type field_type.entry)) }
 {
     for _name in names {
         types.push(field_type)?;
@@ -439,7 +460,8 @@ fn declare_fields<'a>(
     faults: &[Diagnostic],
     scope: &mut KnownScope<'a>,
 ) -> Result<(), AllocError>
-    ensures { OnOk result (scope.new ≡ scope.old ++ rules.field_entries (path_view path.now) faults.now class.now.name.1 (class_tree class.now).groups) }
+    ensures { OnOk result (scope.new ≡ scope.old
+        ++ rules.field_entries (path_view path.now) faults.now class.now.name.1 (class_tree class.now).groups) }
 {
     for (spec, names) in &class.groups {
         let field = Meaning::Field(class.name.1, spec_type(arena, path, spec)?);
@@ -478,7 +500,8 @@ pub(crate) fn declare_names<'a>(
     means: Option<Meaning<'a>>,
     scope: &mut KnownScope<'a>,
 ) -> Result<(), AllocError>
-    ensures { OnOk result (scope.new ≡ scope.old ++ rules.entries names.now.items (option_map view.meaning means.entry)) }
+    ensures { OnOk result (scope.new ≡ scope.old
+        ++ rules.entries names.now.items (option_map view.meaning means.entry)) }
 {
     declare_each(names, Reading::AsPhrases, means, scope)
 }
@@ -489,7 +512,7 @@ pub fn twice(scope: &KnownScope, faults: &mut Vec<Diagnostic>) -> Result<(), All
 {
     for position in 0..scope.len() {
         if let Some(place) = scope.second_at(position) {
-            add_fault(31, place, faults)?;
+            add_fault(Diagnostic::NAME_DECLARED_TWICE, place, faults)?;
         }
     }
     Ok(())

@@ -8,7 +8,7 @@ ghost use Rattle.declared_names.specs.KnownView.{entry_of};
 ghost use Rattle.declared_names.specs.KnownPaths.{path_view};
 ghost use Rattle.declared_names.specs.Seconds.{second_fault};
 
-use block_scopes::Scope;
+use name_scopes::Scope;
 use std::alloc::{AllocError, Global};
 use std::marker::Model;
 use typing_rules::{Meaning, Reading};
@@ -116,7 +116,8 @@ impl<'a> KnownScope<'a> {
     /// The place of the declaration at a position, where its name is declared before.
     pub fn second_at(&self, position: usize) -> Option<Place>
         requires { position < length self.now }
-        ensures { (e : Entry scopes.Known) → second_fault result ≡ scopes.again (take position self.now) (slice_index_or self.now position e) }
+        ensures { (e : Entry scopes.Known) → second_fault result
+            ≡ scopes.again (take position self.now) (slice_index_or self.now position e) }
     {
         let (name, _) = &self.names.names()[position];
         let place = self.known[position].place;

@@ -13,33 +13,35 @@ use crate::declarations::{draft_formals, formal_faults, result_faults, result_ty
 use crate::known::KnownPath;
 use algolw_tree::{Formal, TypeSpec};
 use bumpalo::Bump;
-use std::alloc::{AllocError, Global};
+use std::alloc::AllocError;
 use typed_drafts::{Draft, DraftDecl, DraftFormal, DraftProc};
 use typing_rules::{NoType, ValueType, Verdict, procedure_row};
 use value_ops::{Diagnostic, Place};
 
 /// What is found of a procedure before its body.
-#[derive(Drop)]
+#[derive(Clone, Copy)]
 pub struct Head<'a> {
     /// Whether the type of its value, as it is written, has no fault.
     pub is_sound: bool,
     /// The type of its value, where it has one.
     pub result: Option<ValueType<'a>>,
     /// Its formals.
-    pub formals: Vec<DraftFormal<'a>>,
+    pub formals: &'a [DraftFormal<'a>],
 }
 
 /// Finds what stands before the body, and adds the faults in it but those of its formals' names.
 pub fn read_head<'a>(
-    alloc: Global,
     arena: &'a Bump,
     path: &KnownPath<'_, 'a>,
     value_type: &Option<TypeSpec>,
     formals: &[Formal],
     faults: &mut Vec<Diagnostic>,
 ) -> Result<Head<'a>, AllocError>
-    ensures faults { OnOk result (faults.new.items ≡ faults.old.items ++ scopes.result_faults (path_view path.now) (option_map spec_tree value_type.now) ++ scopes.formal_faults (path_view path.now) (map formal_tree formals.now)) }
-    ensures head { IfOk result (λ h. IsHead h (path_view path.now) (option_map spec_tree value_type.now) (map formal_tree formals.now)) }
+    ensures faults { OnOk result (faults.new.items ≡ faults.old.items
+        ++ scopes.result_faults (path_view path.now) (option_map spec_tree value_type.now)
+        ++ scopes.formal_faults (path_view path.now) (map formal_tree formals.now)) }
+    ensures head { IfOk result (λ h. IsHead h (path_view path.now) (option_map spec_tree value_type.now)
+        (map formal_tree formals.now)) }
 {
     let before = faults.len();
     result_faults(path, value_type, faults)?;
@@ -48,13 +50,14 @@ pub fn read_head<'a>(
     Ok(Head {
         is_sound,
         result: result_type(arena, path, value_type)?,
-        formals: draft_formals(alloc, arena, path, formals)?,
+        formals: draft_formals(arena, path, formals)?,
     })
 }
 
 /// The verdict of a procedure, at `PROCEDURE`: its body gives what its head says.
-pub fn procedure_verdict<'a>(place: Place, head: &Head<'a>, body: Verdict<'a>) -> Verdict<'a>
-    ensures { view.verdict result ≡ verdict_of place head.now.is_sound (option_map view.value_type head.now.result) (verdicts.type_of (view.verdict body.entry)) }
+pub fn procedure_verdict<'a>(place: Place, head: Head<'a>, body: Verdict<'a>) -> Verdict<'a>
+    ensures { view.verdict result ≡ verdict_of place head.entry.is_sound
+        (option_map view.value_type head.entry.result) (verdicts.type_of (view.verdict body.entry)) }
 {
     match body {
         Ok(gives) if head.is_sound => procedure_row(place, head.result, gives),
@@ -64,19 +67,19 @@ pub fn procedure_verdict<'a>(place: Place, head: &Head<'a>, body: Verdict<'a>) -
 
 /// A procedure with this head and this body, whose name stands at a place.
 pub fn procedure<'a>(
-    alloc: Global,
     place: Place,
     name: Place,
     head: Head<'a>,
-    body: Draft<'a>,
-) -> Result<DraftDecl<'a>, AllocError>
-    ensures { IfOk result (λ d. decl_view d ≡ typed.Proc place (option_map view.value_type head.entry.result) (place_view name) (map formal_view head.entry.formals.items) (draft_view body.entry)) }
+    body: &'a Draft<'a>,
+) -> DraftDecl<'a>
+    ensures { decl_view result ≡ typed.Proc place (option_map view.value_type head.entry.result)
+        (place_view name) (map formal_view head.entry.formals.now) (draft_view body.now) }
 {
-    Ok(DraftDecl::Proc(DraftProc {
+    DraftDecl::Proc(DraftProc {
         place,
         result: head.result,
         name,
         formals: head.formals,
-        body: Box::new(alloc, body)?,
-    }))
+        body,
+    })
 }

@@ -48,7 +48,8 @@ impl Input {
         kind: SimpleType,
     ) -> Result<Value, Fault>
         requires { IsTrue (is_readable kind) }
-        ensures value { IfOk result (λ value. scanned cards.now (read_from next_card self.old) kind ≡ Ok (value, self.new)) }
+        ensures value { IfOk result (λ value.
+            scanned cards.now (read_from next_card self.old) kind ≡ Ok (value, self.new)) }
         ensures fault { IfErr result (λ fault. scanned cards.now (read_from next_card self.old) kind ≡ Err fault) }
         ensures kept { OnErr result (self.new ≡ self.old) }
     {
@@ -114,7 +115,8 @@ impl Input {
 
     /// What is left of the card here, with the blanks that fill it, where there is a card.
     fn line(self, cards: &[Card]) -> Option<Card>
-        ensures line { MatchOption result (is_on_card cards.now self ≡ false) (λ line. (is_on_card cards.now self ≡ true) × (line ≡ line_at cards.now self)) }
+        ensures line { MatchOption result (is_on_card cards.now self ≡ false)
+            (λ line. (is_on_card cards.now self ≡ true) × (line ≡ line_at cards.now self)) }
         ensures columns { IfSome result (λ line. self % 80 + length line ≡ 80) }
         ensures counted { IfSome result (λ line. self + length line ≤ 80 * (2 ^ 64 - 1)) }
     {

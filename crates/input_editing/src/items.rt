@@ -122,7 +122,8 @@ fn string_at(line: &[u8], most: u16) -> Option<(Text, usize)>
 /// The text of the literal that a line begins with, and how many columns the literal takes, where it is closed.
 fn literal_at(line: &[u8]) -> Option<(Text, usize)>
     requires { length line.now ≤ 80 }
-    ensures parts { MatchOption result (literal_at line.now ≡ None) (λ found. literal_at line.now ≡ Some (found.0, drop found.1 line.now)) }
+    ensures parts { MatchOption result (literal_at line.now ≡ None)
+        (λ found. literal_at line.now ≡ Some (found.0, drop found.1 line.now)) }
     ensures columns { IfSome result (λ found. found.1 ≡ length (literal found.0)) }
     ensures within { IfSome result (λ found. found.1 ≤ length line.now) }
 {

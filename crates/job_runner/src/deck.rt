@@ -26,7 +26,7 @@ const MOST_DIGITS: usize = 10;
 
 /// What is said of a deck that can't be run by now.
 pub const NOT_BY_NOW: Diagnostic = Diagnostic {
-    number: 90,
+    number: Diagnostic::DECK_NOT_OF_THE_PRESENT_FORM,
     place: Place { card: 1, column: 1 },
 };
 
@@ -132,7 +132,8 @@ fn sum_of_card(alloc: Global, card: &[u8]) -> Result<Option<u64>, AllocError>
 
 /// The sum that a deck writes and its card, where the deck has the form.
 fn sum_of_deck(alloc: Global, deck: &[Card]) -> Result<Option<(u64, &Card)>, AllocError>
-    ensures { IfOk result (λ s. MatchOption s (sum_of_deck deck.now ≡ None) (λ p. (sum_of_deck deck.now ≡ Some p.0) × (p.1.now ≡ first_card deck.now))) }
+    ensures { IfOk result (λ s. MatchOption s (sum_of_deck deck.now ≡ None)
+        (λ p. (sum_of_deck deck.now ≡ Some p.0) × (p.1.now ≡ first_card deck.now))) }
 {
     match deck {
         [card] => match sum_of_card(alloc, card.as_slice())? {
@@ -145,7 +146,8 @@ fn sum_of_deck(alloc: Global, deck: &[Card]) -> Result<Option<(u64, &Card)>, All
 
 /// The sum that a job writes and its card, where its deck has the form and it may take the steps.
 pub fn sum_of_job(alloc: Global, job: &Job) -> Result<Option<(u64, &Card)>, AllocError>
-    ensures { IfOk result (λ s. MatchOption s (sum_of_job job.now ≡ None) (λ p. (sum_of_job job.now ≡ Some p.0) × (p.1.now ≡ first_card job.now.deck))) }
+    ensures { IfOk result (λ s. MatchOption s (sum_of_job job.now ≡ None)
+        (λ p. (sum_of_job job.now ≡ Some p.0) × (p.1.now ≡ first_card job.now.deck))) }
 {
     if job.steps < SUM_STEPS {
         return Ok(None);

@@ -1,10 +1,11 @@
 ghost use Rattle.std.specs.Prelude.{◌≡◌, ◌≤◌, ◌++◌, ◌∷◌, [], IfSome, OnOk, decimal, length};
 ghost use Rattle.short_text.specs.Blanks.{right};
-ghost use Rattle.algolw_meaning.specs.Texts.{line, source_line, sum_line, place_text, diagnostic_head, diagnostic_line};
+ghost use Rattle.post_mortem.specs.Dump.{place_text};
+ghost use Rattle.algolw_meaning.specs.Texts.{line, source_line, sum_line, diagnostic_head, diagnostic_line};
 
 use account_book::{Counts, charge_of};
 use itoa::Buffer;
-use post_mortem::source_line;
+use post_mortem::{place_line, source_line};
 use std::alloc::{AllocError, Global};
 use value_ops::{Card, Diagnostic, Place};
 
@@ -73,13 +74,10 @@ pub fn push_source_line(
 }
 
 /// Adds a card's number and a column.
-#[tactic(auto, unfolding(algolw_meaning::specs::Texts::place_text))]
 fn push_place(out: &mut Vec<u8>, place: Place) -> Result<(), AllocError>
     ensures { OnOk result (out.new.items ≡ out.old.items ++ place_text place) }
 {
-    push_number(out, u64::from(place.card))?;
-    out.push(b',')?;
-    push_number(out, u64::from(place.column))
+    out.extend_from_slice(place_line(place).as_slice())
 }
 
 /// Adds the number of a diagnostic, and its place.

@@ -47,10 +47,12 @@ fn write_sections<K: Sink>(
     jobs: Vec<Job>,
 ) -> Result<(), Stop>
     requires { IsBehind audit.old.book [] }
-    ensures ok { OnOk result (Appends (K.written sink.old) (K.written sink.new) (sections (openings_of audit.old.book.accounts) jobs.items)) }
+    ensures ok { OnOk result (Appends (K.written sink.old) (K.written sink.new)
+        (sections (openings_of audit.old.book.accounts) jobs.items)) }
     ensures behind { OnOk result (IsBehind audit.new.book jobs.items) }
     ensures accounts { audit.new.book.accounts ≡ audit.old.book.accounts }
-    ensures err { OnErr result (AppendsPrefix (K.written sink.old) (K.written sink.new) (sections (openings_of audit.old.book.accounts) jobs.items)) }
+    ensures err { OnErr result (AppendsPrefix (K.written sink.old) (K.written sink.new)
+        (sections (openings_of audit.old.book.accounts) jobs.items)) }
     ensures kept { OnOk result (K.faults sink.new ≡ K.faults sink.old) }
     ensures write { IsErrOf result Stop.WriteFault → Rose (K.faults sink.old) (K.faults sink.new) }
     ensures read { IsErrOf result Stop.ReadFault → ⊥ }

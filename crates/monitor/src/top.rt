@@ -73,18 +73,27 @@ pub fn run_monitor<S: Source, K: Sink, G: Gate>(
     ensures untouched { 0 < length words.now → (src.new ≡ src.old) × (sink.new ≡ sink.old) }
 
     // What was written is the listing of the batch, or on any other answer a prefix of the listing of what was read.
-    ensures done { result ≡ Status.Done → IsDone (S.left src.old) (S.left src.new) (K.written sink.old) (K.written sink.new) }
-    ensures cut { length words.now ≡ 0 → (result ≡ Status.Done → ⊥) → IsCutShort (S.left src.old) (S.left src.new) (K.written sink.old) (K.written sink.new) }
+    ensures done { result ≡ Status.Done
+        → IsDone (S.left src.old) (S.left src.new) (K.written sink.old) (K.written sink.new) }
+    ensures cut { length words.now ≡ 0 → (result ≡ Status.Done → ⊥)
+        → IsCutShort (S.left src.old) (S.left src.new) (K.written sink.old) (K.written sink.new) }
 
     // Each answer has its cause, and no fault is passed over.
-    ensures kept { result ≡ Status.Done → (S.faults src.new ≡ S.faults src.old) × (K.faults sink.new ≡ K.faults sink.old) }
+    ensures kept { result ≡ Status.Done
+        → (S.faults src.new ≡ S.faults src.old) × (K.faults sink.new ≡ K.faults sink.old) }
     ensures read { result ≡ Status.ReadFault → Rose (S.faults src.old) (S.faults src.new) }
     ensures write { result ≡ Status.WriteFault → Rose (K.faults sink.old) (K.faults sink.new) }
     ensures large { result ≡ Status.TooLarge → IsTooLarge (S.left src.old) (S.left src.new) }
 
     // A batch that fits is run to the end, and one that doesn't is refused, unless a read, a write or memory fails.
-    ensures complete { length words.now ≡ 0 → IfSome (S.left src.old) (λ b. too_large b ≡ false → (Rose (S.faults src.old) (S.faults src.new) → ⊥) → (Rose (K.faults sink.old) (K.faults sink.new) → ⊥) → (result ≡ Status.Done) ⊎ (result ≡ Status.NoMemory)) }
-    ensures refused { length words.now ≡ 0 → IfSome (S.left src.old) (λ b. too_large b ≡ true → (Rose (S.faults src.old) (S.faults src.new) → ⊥) → (Rose (K.faults sink.old) (K.faults sink.new) → ⊥) → (result ≡ Status.TooLarge) ⊎ (result ≡ Status.NoMemory)) }
+    ensures complete { length words.now ≡ 0 → IfSome (S.left src.old) (λ b. too_large b ≡ false
+        → (Rose (S.faults src.old) (S.faults src.new) → ⊥)
+        → (Rose (K.faults sink.old) (K.faults sink.new) → ⊥)
+        → (result ≡ Status.Done) ⊎ (result ≡ Status.NoMemory)) }
+    ensures refused { length words.now ≡ 0 → IfSome (S.left src.old) (λ b. too_large b ≡ true
+        → (Rose (S.faults src.old) (S.faults src.new) → ⊥)
+        → (Rose (K.faults sink.old) (K.faults sink.new) → ⊥)
+        → (result ≡ Status.TooLarge) ⊎ (result ≡ Status.NoMemory)) }
 {
     if !words.is_empty() {
         return Status::BadWords;
@@ -98,7 +107,8 @@ pub fn run_monitor<S: Source, K: Sink, G: Gate>(
 /// Reads a batch, runs its jobs and writes its listing.
 fn run_batch<S: Source, K: Sink>(alloc: Global, src: &mut S, sink: &mut K) -> Result<(), Stop>
     ensures done { OnOk result (IsDone (S.left src.old) (S.left src.new) (K.written sink.old) (K.written sink.new)) }
-    ensures cut { OnErr result (IsCutShort (S.left src.old) (S.left src.new) (K.written sink.old) (K.written sink.new)) }
+    ensures cut { OnErr result
+        (IsCutShort (S.left src.old) (S.left src.new) (K.written sink.old) (K.written sink.new)) }
     ensures kept { OnOk result ((S.faults src.new ≡ S.faults src.old) × (K.faults sink.new ≡ K.faults sink.old)) }
     ensures read { IsErrOf result Stop.ReadFault → Rose (S.faults src.old) (S.faults src.new) }
     ensures write { IsErrOf result Stop.WriteFault → Rose (K.faults sink.old) (K.faults sink.new) }

@@ -44,7 +44,12 @@ impl Model for Printer {
 
     ghost Value = { Page };
 
-    ghost view = { λ p. record { limit = p.limit; lines = map trimmed (take p.closed p.lines.items) ++ printed p.open_line; open_line = p.open_line; is_full = p.is_full } };
+    ghost view = { λ p. record {
+      limit = p.limit;
+      open_line = p.open_line;
+      is_full = p.is_full;
+      lines = map trimmed (take p.closed p.lines.items) ++ printed p.open_line;
+    } };
 
     ghost invariant = { λ p. Kept p.lines.items p.closed p.open_line p.limit };
 }
@@ -79,8 +84,10 @@ impl Printer {
     /// exactly where this needs a line more than the limit, or a call before did; the lines within the limit stay.
     pub fn write_first(&mut self, value: &Value) -> Result<(), Limit>
         ensures limit { self.new.limit ≡ self.old.limit }
-        ensures printed { (pieces : List Piece) → HasPrinted self.old pieces → HasPrinted self.new (pieces ++ written_first value.now) }
-        ensures answer { (pieces : List Piece) → HasPrinted self.old pieces → result ≡ answer self.old.limit (pieces ++ written_first value.now) }
+        ensures printed { (pieces : List Piece) → HasPrinted self.old pieces
+            → HasPrinted self.new (pieces ++ written_first value.now) }
+        ensures answer { (pieces : List Piece) → HasPrinted self.old pieces
+            → result ≡ answer self.old.limit (pieces ++ written_first value.now) }
     {
         self.end_line();
         self.write_on(value)
@@ -91,8 +98,10 @@ impl Printer {
     /// within the limit stay.
     pub fn write_on(&mut self, value: &Value) -> Result<(), Limit>
         ensures limit { self.new.limit ≡ self.old.limit }
-        ensures printed { (pieces : List Piece) → HasPrinted self.old pieces → HasPrinted self.new (pieces ++ written_on value.now) }
-        ensures answer { (pieces : List Piece) → HasPrinted self.old pieces → result ≡ answer self.old.limit (pieces ++ written_on value.now) }
+        ensures printed { (pieces : List Piece) → HasPrinted self.old pieces
+            → HasPrinted self.new (pieces ++ written_on value.now) }
+        ensures answer { (pieces : List Piece) → HasPrinted self.old pieces
+            → result ≡ answer self.old.limit (pieces ++ written_on value.now) }
     {
         self.put_value(value);
         if self.is_full {
@@ -105,7 +114,8 @@ impl Printer {
     /// Closes the open line, as IOCONTROL(2) does. Where none is open it does nothing.
     pub fn end_line(&mut self)
         ensures limit { self.new.limit ≡ self.old.limit }
-        ensures printed { (pieces : List Piece) → HasPrinted self.old pieces → HasPrinted self.new (pieces ++ Break ∷ []) }
+        ensures printed { (pieces : List Piece) → HasPrinted self.old pieces
+            → HasPrinted self.new (pieces ++ Break ∷ []) }
     {
         self.close_line();
     }
@@ -134,7 +144,8 @@ impl Printer {
     /// Puts what is printed of a value: of a reference nothing is.
     fn put_value(&mut self, value: &Value)
         ensures limit { self.new.limit ≡ self.old.limit }
-        ensures printed { (pieces : List Piece) → HasPrinted self.old pieces → HasPrinted self.new (pieces ++ puts value.now) }
+        ensures printed { (pieces : List Piece) → HasPrinted self.old pieces
+            → HasPrinted self.new (pieces ++ puts value.now) }
     {
         match value {
             Value::Integer(number) => self.put(integer_field(*number).as_slice(), BLANKS),
@@ -151,7 +162,8 @@ impl Printer {
     fn put_string(&mut self, string: &[u8])
         requires { length string.now ≤ 256 }
         ensures limit { self.new.limit ≡ self.old.limit }
-        ensures printed { (pieces : List Piece) → HasPrinted self.old pieces → HasPrinted self.new (pieces ++ string_puts string.now) }
+        ensures printed { (pieces : List Piece) → HasPrinted self.old pieces
+            → HasPrinted self.new (pieces ++ string_puts string.now) }
     {
         if string.len() <= COLUMNS {
             self.put(string, 0);
@@ -166,7 +178,8 @@ impl Printer {
     fn put(&mut self, text: &[u8], after: usize)
         requires { length text.now ≤ 132 }
         ensures limit { self.new.limit ≡ self.old.limit }
-        ensures printed { (pieces : List Piece) → HasPrinted self.old pieces → HasPrinted self.new (pieces ++ Put text.now after ∷ []) }
+        ensures printed { (pieces : List Piece) → HasPrinted self.old pieces
+            → HasPrinted self.new (pieces ++ Put text.now after ∷ []) }
     {
         self.make_room(text);
         // Where no line is open by now, the limit is met.

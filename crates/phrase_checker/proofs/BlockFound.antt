@@ -1,8 +1,6 @@
 -- What is found of a block and of a procedure.
 use Rattle.std.proofs.Common.{◌≡◌, Bool, List, [], ◌∷◌, ◌++◌, Option, refl, ap, subst, ◌∙◌, append_assoc, map}
 use Rattle.std.specs.Option.{option_map}
-use Rattle.std.specs.declared.vec.Vec.{Vec}
-use Rattle.std.specs.declared.alloc.Global.{Global}
 use Rattle.value_ops.specs.declared.places.Diagnostic.{Diagnostic}
 use Rattle.value_ops.specs.declared.places.Place.{Place}
 use Rattle.algolw_tree.specs.Tree as tree
@@ -29,7 +27,7 @@ use Rattle.phrase_checker.proofs.Steps.{three_behind}
 abbrev at_block : Place → Place → Verdict → typed.Decls → typed.Items → typed.Node
 at_block p f v ds is = typed.At p f (type_of v) (counted f v) (typed.Block ds is)
 
-pub block_found : (path : Scopes) (p f : Place) (s0 s2 s3 s4 : Checker) (twices : List Diagnostic) (names meant scope : Scope Known) (decls : tree.Decls) (items : tree.Items) (ds : Vec DraftDecl Global) (is : Items) (t : Typed)
+pub block_found : (path : Scopes) (p f : Place) (s0 s2 s3 s4 : Checker) (twices : List Diagnostic) (names meant scope : Scope Known) (decls : tree.Decls) (items : tree.Items) (ds : List DraftDecl) (is : Items) (t : Typed)
     → names ≡ names_of_block decls items → twices ≡ s0.faults.items ++ twice [] names → s2.faults.items ≡ twices → meant ≡ meanings path (names ∷ path) decls → scope ≡ meant ++ label_entries items
     → DeclsChecked s2 s3 ds (typed_decls path (scope ∷ path) decls) → ItemsChecked s3 s4 is (typed_items (scope ∷ path) (Good Statement) items) → Finds t (block_out p f [] (block_decls ds) (items_view is))
     → Checked s0 s4 t (typed_kind path p f (tree.Block decls items))
@@ -44,7 +42,7 @@ block_found path p f s0 s2 s3 s4 twices names meant scope decls items ds is t n 
     record {
       faults = gi.faults ∙ ap (λ fs. fs ++ oi.inside) (gd.faults ∙ ap (λ fs. fs ++ od.inside) (m ∙ w ∙ ap (λ (s : Scope Known). s0.faults.items ++ twice [] s) n)) ∙ three_behind s0.faults.items (twice [] all) od.inside oi.inside;
       verdict = h.verdict ∙ gi.verdict;
-      node = h.node ∙ ap (λ (v : Verdict). at_block p f v (decls_view ds.items) (items_view is).items) gi.verdict ∙ ap (λ (d : typed.Decls). at_block p f oi.verdict d (items_view is).items) gd.decls ∙ ap (at_block p f oi.verdict od.decls) gi.items;
+      node = h.node ∙ ap (λ (v : Verdict). at_block p f v (decls_view ds) (items_view is).items) gi.verdict ∙ ap (λ (d : typed.Decls). at_block p f oi.verdict d (items_view is).items) gd.decls ∙ ap (at_block p f oi.verdict od.decls) gi.items;
     }
 
 -- ---- procedures
@@ -61,7 +59,7 @@ five_behind a b c d e f = simp append_assoc
 pub procedure_found : (around path : Scopes) (p : Place) (spec : Option tree.TypeSpec) (x : tree.Placed) (fs : List tree.Formal) (body : tree.Phrase) (f0 f1 f2 f4 : List Diagnostic) (s2 s3 : Checker) (scope : Scope Known) (h : Head) (tb : Typed) (v : Verdict) (d : DraftDecl)
     → f1 ≡ f0 ++ result_faults path spec ++ formal_faults path fs → IsHead h path spec fs → scope ≡ formal_scope path fs → f2 ≡ f1 ++ twice [] scope → s2.faults.items ≡ f2 → Noted s2 s3 tb (typed_phrase (scope ∷ path) body)
     → v ≡ verdict_of p h.is_sound (option_map view.value_type h.result) (type_of (view.verdict tb.verdict)) → f4 ≡ s3.faults.items ++ fault_of v
-    → decl_view d ≡ typed.Proc p (option_map view.value_type h.result) (declares_at x) (map formal_view h.formals.items) (draft_view tb.draft)
+    → decl_view d ≡ typed.Proc p (option_map view.value_type h.result) (declares_at x) (map formal_view h.formals.now) (draft_view tb.draft.now)
     → DeclFound f0 f4 d (typed_decl around path (tree.Proc p spec x fs body))
 procedure_found around path p spec x fs body f0 f1 f2 f4 s2 s3 scope h tb v d e1 head es e2 same hb ev e4 ed =
     let own : Scope Known = formal_scope path fs in
@@ -72,5 +70,5 @@ procedure_found around path p spec x fs body f0 f1 f2 f4 s2 s3 scope h tb v d e1
       faults = e4 ∙ ap (λ (u : Verdict). s3.faults.items ++ fault_of u) whole
           ∙ ap (λ gs. gs ++ fault_of (procedure_verdict p (result_faults path spec) (result_type path spec) o)) (gb.faults ∙ ap (λ gs. gs ++ faults o) (same ∙ e2 ∙ ap (λ gs. gs ++ twice [] scope) e1 ∙ ap (λ (s : Scope Known). f0 ++ result_faults path spec ++ formal_faults path fs ++ twice [] s) es))
           ∙ five_behind f0 (result_faults path spec) (formal_faults path fs) (twice [] own) (faults o) (fault_of (procedure_verdict p (result_faults path spec) (result_type path spec) o));
-      decl = ed ∙ ap (λ (r : Option ValueType). typed.Proc p r (declares_at x) (map formal_view h.formals.items) (draft_view tb.draft)) head.result ∙ ap (λ (gs : List typed.Formal). typed.Proc p (result_type path spec) (declares_at x) gs (draft_view tb.draft)) head.formals ∙ ap (typed.Proc p (result_type path spec) (declares_at x) (typed_formals path fs)) gb.node;
+      decl = ed ∙ ap (λ (r : Option ValueType). typed.Proc p r (declares_at x) (map formal_view h.formals.now) (draft_view tb.draft.now)) head.result ∙ ap (λ (gs : List typed.Formal). typed.Proc p (result_type path spec) (declares_at x) gs (draft_view tb.draft.now)) head.formals ∙ ap (typed.Proc p (result_type path spec) (declares_at x) (typed_formals path fs)) gb.node;
     }

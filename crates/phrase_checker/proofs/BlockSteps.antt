@@ -2,8 +2,6 @@
 use Rattle.std.proofs.Common.{◌≡◌, ℕ, zero, suc, ◌+◌, ◌<◌, ◌≤◌, Bool, nat_eq, List, [], ◌∷◌, ◌++◌, length, get_or, drop, map, refl, sym, ap, ◌∙◌, append_assoc, append-nil, arith}
 use Rattle.std.proofs.lemmas.List.{drop_all, map-append}
 use Rattle.std.proofs.lemmas.Bool.{eq-eqb, ne_eqb}
-use Rattle.std.specs.declared.vec.Vec.{Vec}
-use Rattle.std.specs.declared.alloc.Global.{Global}
 use Rattle.value_ops.specs.declared.places.Diagnostic.{Diagnostic}
 use Rattle.value_ops.specs.declared.places.Place.{Place}
 use Rattle.algolw_tree.specs.declared.phrases.Bound.{Bound}
@@ -134,28 +132,21 @@ abbrev first_of : BoundsOut → List BoundsOut → BoundsOut
 first_of o [] = o
 first_of o (x ∷ xs) = x
 
-pub decls_turn : (around path : Scopes) (whole : DeclsOut) (start : List Diagnostic) (ds : List Decl) (i : ℕ) (d : Decl) (a b : List Diagnostic) (old new : List DraftDecl) (x : DraftDecl) (kept kept' : List Bounds) (own : Bounds) → i < length ds → d ≡ get_or ds i d → kept ≡ own ∷ kept'
-    → (bounds_view own ≡ decl_bounds around (decl_tree d) → DeclFound a b x (typed_decl around path (decl_tree d))) → new ≡ old ++ x ∷ []
-    → (map bounds_view kept ≡ each_bounds around (map decl_tree (drop i ds))) × DeclsSoFar start a (map decl_view old) whole (typed_decls around path (decls_of (map decl_tree (drop i ds))))
-    → (map bounds_view kept' ≡ each_bounds around (map decl_tree (drop (i + 1) ds))) × DeclsSoFar start b (map decl_view new) whole (typed_decls around path (decls_of (map decl_tree (drop (i + 1) ds))))
-decls_turn around path whole start ds i d a b old new x kept kept' own within is k found n h =
-    let both : bounds_view own ∷ map bounds_view kept' ≡ decl_bounds around (decl_tree d) ∷ each_bounds around (map decl_tree (drop (i + 1) ds)) =
-    ap (map bounds_view) (sym k) ∙ h.0 ∙ ap (λ ys. each_bounds around (map decl_tree ys)) (next ds i d within is) in
-    (ap rest_of both, decls_step around path whole start ds i d a b old new x within is (found (ap (first_of (bounds_view own)) both)) n h.1)
+-- the bounds of a declaration are found at its position
+pub own_bounds : (around : Scopes) (bs : List Bounds) (ds : List Decl) (i : ℕ) (b : Bounds) (d : Decl) → i < length ds → map bounds_view bs ≡ each_bounds around (map decl_tree ds) → b ≡ get_or bs i b → d ≡ get_or ds i d → bounds_view b ≡ decl_bounds around (decl_tree d)
+own_bounds around bs [] i b d within e at_b at_d = absurd (omega (arith, within))
+own_bounds around [] (y ∷ ds) i b d within e at_b at_d = cc
+own_bounds around (x ∷ bs) (y ∷ ds) zero b d within e at_b at_d = ap bounds_view at_b ∙ ap (first_of (bounds_view x)) e ∙ ap (λ (z : Decl). decl_bounds around (decl_tree z)) (sym at_d)
+own_bounds around (x ∷ bs) (y ∷ ds) (suc i) b d within e at_b at_d = own_bounds around bs ds i b d (omega (arith, within)) (ap rest_of e) at_b at_d
 
-pub fewer : (ds : List Decl) (i : ℕ) (d : Decl) (kept kept' : List Bounds) (own : Bounds) → i < length ds → d ≡ get_or ds i d → kept ≡ own ∷ kept' → length kept ≡ length (drop i ds) → length kept' ≡ length (drop (i + 1) ds)
-fewer ds i d kept kept' own within is k h =
-    let both : suc (length kept') ≡ suc (length (drop (i + 1) ds)) = ap length (sym k) ∙ h ∙ ap length (next ds i d within is) in
-    omega (arith, both)
-
-pub decls_end : (around path : Scopes) (ds : List Decl) (i : ℕ) (a b : Checker) (found : Vec DraftDecl Global) → length ds ≤ i
-    → DeclsSoFar a.faults.items b.faults.items (map decl_view found.items) (typed_decls around path (decls_of (map decl_tree ds))) (typed_decls around path (decls_of (map decl_tree (drop i ds))))
+pub decls_end : (around path : Scopes) (ds : List Decl) (i : ℕ) (a b : Checker) (found : List DraftDecl) → length ds ≤ i
+    → DeclsSoFar a.faults.items b.faults.items (map decl_view found) (typed_decls around path (decls_of (map decl_tree ds))) (typed_decls around path (decls_of (map decl_tree (drop i ds))))
     → DeclsChecked a b found (typed_decls around path (decls_of (map decl_tree ds)))
 decls_end around path ds i a b found past h =
     let last : typed_decls around path (decls_of (map decl_tree (drop i ds))) ≡ no_more_decls = ap (λ ys. typed_decls around path (decls_of (map decl_tree ys))) (drop_all i ds past) in
     record {
       faults = sym (append-nil b.faults.items) ∙ sym (h.faults ∙ ap (λ (o : DeclsOut). b.faults.items ++ o.inside) last);
-      decls = sym (h.parts ∙ ap (λ (o : DeclsOut). decls_onto (map decl_view found.items) o.decls) last);
+      decls = sym (h.parts ∙ ap (λ (o : DeclsOut). decls_onto (map decl_view found) o.decls) last);
     }
 
 drop_count : (xs : List Item) (j : ℕ) → j ≤ length xs → length (drop j xs) + j ≡ length xs

@@ -104,11 +104,11 @@ list_checked path n l q as_ front r a b found old new e f reads c front_is draft
     })
 
 pub actual_checked : (path : Scopes) (w : Wanted) (x : tree.Actual) (p : tree.Phrase) (s0 s1 : Checker) (s2 : Checker) (t : Typed) (g : Given) (old new : Parts) → x ≡ tree.Given p → Checked s0 s1 t (typed_phrase path p) → given_out g ≡ given path w p (found_view t)
-    → s2.faults.items ≡ s1.faults.items ++ fault_of (view.verdict g.verdict) → map part new.parts.items ≡ map part old.parts.items ++ part g.part ∷ [] → map actual_view new.drafts.items ≡ map actual_view old.drafts.items ++ typed.Given (draft_view g.draft) ∷ []
+    → s2.faults.items ≡ s1.faults.items ++ fault_of (view.verdict g.verdict) → map part new.parts.items ≡ map part old.parts.items ++ part g.part ∷ [] → map actual_view new.drafts.items ≡ map actual_view old.drafts.items ++ typed.Given (draft_view g.draft.now) ∷ []
     → ActualChecked s0 s2 old new (actual_step path w x)
 actual_checked path w x p s0 s1 s2 t g old new e c is f ps ds =
     let o : Out = typed_phrase path p in
-    let found : found_view t ≡ bare o = ap (λ (v : Verdict). at_out [] v (draft_view t.draft)) c.verdict ∙ ap (at_out [] o.verdict) c.node in
+    let found : found_view t ≡ bare o = ap (λ (v : Verdict). at_out [] v (draft_view t.draft.now)) c.verdict ∙ ap (at_out [] o.verdict) c.node in
     let read : given_out g ≡ given path w p (bare o) = is ∙ ap (given path w p) found in
     let behind : Behind o.inside (given path w p o) (given path w p (bare o)) = given_bare path w p o in
     subst (λ (y : tree.Actual). ActualChecked s0 s2 old new (actual_step path w y)) (sym e) (record {

@@ -40,10 +40,10 @@ at_out inside v n = record { inside = inside; verdict = v; node = n }
 
 -- what is found, with the faults inside that the rules give
 abbrev pub seen : Out → Typed → Out
-seen o t = at_out o.inside (view.verdict t.verdict) (draft_view t.draft)
+seen o t = at_out o.inside (view.verdict t.verdict) (draft_view t.draft.now)
 
 pub seen_is : (a b : Checker) (t : Typed) (o : Out) → Noted a b t o → seen o t ≡ o
-seen_is a b t o h = ap (λ (v : Verdict). at_out o.inside v (draft_view t.draft)) h.verdict ∙ ap (at_out o.inside o.verdict) h.node
+seen_is a b t o h = ap (λ (v : Verdict). at_out o.inside v (draft_view t.draft.now)) h.verdict ∙ ap (at_out o.inside o.verdict) h.node
 
 pub three_behind : (a b c d : List Diagnostic) → a ++ b ++ c ++ d ≡ a ++ (b ++ c ++ d)
 three_behind a b c d = simp append_assoc
@@ -83,7 +83,7 @@ if_else_checked r path p f s0 s1 s2 s3 tc ta tb c a o b x e e1 hc ha hb h =
     by_kind r s0 s3 path p f _ _ k (IfOk-weaker r (λ (t : Typed). Finds t (if_else_out p f (found_view tc) (found_view ta) (found_view tb))) (λ (t : Typed). Checked s0 s3 t (if_else_out p f (typed_phrase path c) (typed_phrase path a) (typed_phrase path (tree x)))) (λ t g. three_found (if_else_out p f) (λ y z w. refl) s0 s1 s2 s3 tc ta tb t (typed_phrase path c) (typed_phrase path a) (typed_phrase path (tree x)) hc ha hb g) h)
 
 pub phrases_step : (path : Scopes) (whole : PhrasesOut) (start : List Diagnostic) (xs : List Phrase) (i : ℕ) (x : Phrase) (a b : Checker) (old new : Phrases) (t : Typed) → i < length xs → x ≡ get_or xs i x → Noted a b t (typed_phrase path (tree x))
-    → map given_view new.gives.items ≡ map given_view old.gives.items ++ type_of (view.verdict t.verdict) ∷ [] → map draft_view new.drafts.items ≡ map draft_view old.drafts.items ++ draft_view t.draft ∷ []
+    → map given_view new.gives.items ≡ map given_view old.gives.items ++ type_of (view.verdict t.verdict) ∷ [] → map draft_view new.drafts.items ≡ map draft_view old.drafts.items ++ draft_view t.draft.now ∷ []
     → PhrasesSoFar start a.faults.items (map given_view old.gives.items) (map draft_view old.drafts.items) whole (typed_phrases path (phrases_of (map tree (drop i xs))))
     → PhrasesSoFar start b.faults.items (map given_view new.gives.items) (map draft_view new.drafts.items) whole (typed_phrases path (phrases_of (map tree (drop (i + 1) xs))))
 phrases_step path whole start xs i x a b old new t within is n g d h =
@@ -91,7 +91,7 @@ phrases_step path whole start xs i x a b old new t within is n g d h =
     (ap (λ ys. typed_phrases path (phrases_of (map tree ys))) (next xs i x within is)) n.faults (g ∙ ap (λ v. map given_view old.gives.items ++ type_of v ∷ []) n.verdict) (d ∙ ap (λ y. map draft_view old.drafts.items ++ y ∷ []) n.node)
 
 pub links_step : (path : Scopes) (whole : LinksOut) (start : List Diagnostic) (xs : List Link) (i : ℕ) (x : Link) (a b : Checker) (old new : Links) (t : Typed) → i < length xs → x ≡ get_or xs i x → Noted a b t (typed_phrase path (tree x.right))
-    → view.verdict new.verdict ≡ onward (view.verdict old.verdict) (λ left. part (type_of (view.verdict t.verdict)) (link_row x.op x.place left)) → map link_view new.drafts.items ≡ map link_view old.drafts.items ++ typed.Linked x.op x.place (draft_view t.draft) ∷ []
+    → view.verdict new.verdict ≡ onward (view.verdict old.verdict) (λ left. part (type_of (view.verdict t.verdict)) (link_row x.op x.place left)) → map link_view new.drafts.items ≡ map link_view old.drafts.items ++ typed.Linked x.op x.place (draft_view t.draft.now) ∷ []
     → LinksSoFar start a.faults.items (map link_view old.drafts.items) whole (typed_links path (view.verdict old.verdict) (links_of (map link_tree (drop i xs))))
     → LinksSoFar start b.faults.items (map link_view new.drafts.items) whole (typed_links path (view.verdict new.verdict) (links_of (map link_tree (drop (i + 1) xs))))
 links_step path whole start xs i x a b old new t within is n v d h =

@@ -1,12 +1,12 @@
 -- What checking a part of a program finds, and which faults it adds.
-use Rattle.std.specs.Prelude.{◌≡◌, ℕ, List, [], ◌∷◌, ◌++◌, map}
-use Rattle.std.specs.declared.vec.Vec.{Vec}
-use Rattle.std.specs.declared.alloc.Global.{Global}
+use Rattle.std.specs.Prelude.{◌≡◌, ℕ, List, [], ◌∷◌, ◌++◌, map, Option, Some, None}
 use Rattle.value_ops.specs.declared.places.Place.{Place}
 use Rattle.algolw_tree.specs.Tree.{Placed}
+use Rattle.algolw_tree.specs.Tree as tree
 use Rattle.algolw_typing.specs.Rows.{bound_row}
+use Rattle.algolw_typing.specs.Scopes.{Scopes}
 use Rattle.algolw_typing.specs.Typed as typed
-use Rattle.algolw_typing.specs.Typing.{Out, faults, gives, PhrasesOut, LinksOut, PartsOut, BoundsOut, DeclsOut, ItemsOut, declare_at, then_item}
+use Rattle.algolw_typing.specs.Typing.{Out, faults, gives, PhrasesOut, LinksOut, PartsOut, BoundsOut, DeclsOut, ItemsOut, declare_at, then_item, typed_kind, typed_phrase}
 use Rattle.algolw_typing.specs.Verdicts.{Verdict, fault_of, two_parts}
 use Rattle.typing_rules.specs.MeaningView.{part}
 use Rattle.typing_rules.specs.View as view
@@ -21,23 +21,45 @@ use Rattle.typed_phrases.specs.FrontViews.{front_view, parts_view}
 use Rattle.typed_phrases.specs.declared.actuals.Parts.{Parts}
 use Rattle.typed_phrases.specs.declared.designators.Lists.{Lists}
 use Rattle.typed_phrases.specs.declared.items.Items.{Items}
+use Rattle.declared_names.specs.declared.known.KnownPath.{KnownPath}
+use Rattle.declared_names.specs.KnownPaths.{path_view}
 use Rattle.phrase_checker.specs.declared.checker.Checker.{Checker}
+use Rattle.typed_phrases.specs.declared.making.Spot.{Spot}
+use Rattle.typed_phrases.specs.declared.statements.Range.{Range}
 use Rattle.typed_phrases.specs.declared.making.Typed.{Typed}
 use Rattle.typed_phrases.specs.declared.making.Phrases.{Phrases}
 use Rattle.typed_phrases.specs.declared.making.Links.{Links}
 use Rattle.typed_phrases.specs.FoundParts.{phrases_view, links_view}
 
+-- what the rules find of a phrase of a kind that stands at a spot
+abbrev pub kind_at : KnownPath → Spot → tree.Kind → Out
+kind_at path spot k = typed_kind (path_view path) spot.place spot.first k
+
 -- the faults inside a phrase are added
 pub record Checked (old new : Checker) (t : Typed) (o : Out) : Type 0 where
   pub faults : new.faults.items ≡ old.faults.items ++ o.inside
   pub verdict : view.verdict t.verdict ≡ o.verdict
-  pub node : draft_view t.draft ≡ o.node
+  pub node : draft_view t.draft.now ≡ o.node
 
 -- and its own
 pub record Noted (old new : Checker) (t : Typed) (o : Out) : Type 0 where
   pub faults : new.faults.items ≡ old.faults.items ++ faults o
   pub verdict : view.verdict t.verdict ≡ o.verdict
-  pub node : draft_view t.draft ≡ o.node
+  pub node : draft_view t.draft.now ≡ o.node
+
+-- the step of a FOR, where there is one
+abbrev pub StepChecked : Scopes → Checker → Checker → Option Typed → tree.Perhaps → Type 0
+StepChecked path old new None tree.Missing = new.faults.items ≡ old.faults.items
+StepChecked path old new (Some t) (tree.There a) = Noted old new t (typed_phrase path a)
+StepChecked path old new t step = ⊥
+
+-- the range of a FOR, part by part
+pub record RangeChecked (path : Scopes) (old new : Checker) (r : Range) (a : tree.Phrase) (s : tree.Perhaps) (b : tree.Phrase) : Type 0 where
+  pub behind_start : Checker
+  pub behind_step : Checker
+  pub start : Noted old behind_start r.start (typed_phrase path a)
+  pub step : StepChecked path behind_start behind_step r.step s
+  pub limit : Noted behind_step new r.limit (typed_phrase path b)
 
 pub record PhrasesChecked (old new : Checker) (f : Phrases) (o : PhrasesOut) : Type 0 where
   pub faults : new.faults.items ≡ old.faults.items ++ o.inside
@@ -71,14 +93,14 @@ pub record BoundChecked (old new : Checker) (b : DraftBound) (p : Place) (lower 
   pub faults : new.faults.items ≡ old.faults.items ++ faults lower ++ faults upper ++ fault_of (two_parts (gives lower) (gives upper) (bound_row p))
   pub bound : bound_view b ≡ typed.Between p lower.node upper.node
 
-pub record BoundsChecked (old new : Checker) (bs : Vec DraftBound Global) (o : BoundsOut) : Type 0 where
+pub record BoundsChecked (old new : Checker) (bs : List DraftBound) (o : BoundsOut) : Type 0 where
   pub faults : new.faults.items ≡ old.faults.items ++ o.inside
-  pub bounds : bounds_onto (map bound_view bs.items) typed.no_bounds ≡ o.bounds
+  pub bounds : bounds_onto (map bound_view bs) typed.no_bounds ≡ o.bounds
 
 -- declarations
-pub record DeclsChecked (old new : Checker) (ds : Vec DraftDecl Global) (o : DeclsOut) : Type 0 where
+pub record DeclsChecked (old new : Checker) (ds : List DraftDecl) (o : DeclsOut) : Type 0 where
   pub faults : new.faults.items ≡ old.faults.items ++ o.inside
-  pub decls : decls_view ds.items ≡ o.decls
+  pub decls : decls_view ds ≡ o.decls
 
 -- an item with a verdict, and all items
 pub record ItemChecked (old new : Checker) (before after : Items) (labels : List Placed) (o : Out) (v : Verdict) : Type 0 where

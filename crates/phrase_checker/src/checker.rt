@@ -7,7 +7,7 @@ ghost use Rattle.algolw_typing.specs.Scopes as scopes;
 ghost use Rattle.algolw_typing.specs.Scopes.{Scopes};
 ghost use Rattle.algolw_typing.specs.Types.{Statement};
 ghost use Rattle.algolw_typing.specs.Typing as rules;
-ghost use Rattle.algolw_typing.specs.Typing.{typed_bounds, typed_decl, typed_decls, typed_items, typed_kind, typed_links, typed_parts, typed_phrase, typed_phrases};
+ghost use Rattle.algolw_typing.specs.Typing.{typed_bounds, typed_decl, typed_decls, typed_items, typed_links, typed_parts, typed_phrase, typed_phrases};
 ghost use Rattle.algolw_typing.specs.Faults.{faults_found, typed_program};
 ghost use Rattle.algolw_typing.specs.Rows as rows;
 ghost use Rattle.algolw_typing.specs.Verdicts.{Good, fault_of, part, type_of};
@@ -16,7 +16,7 @@ ghost use Rattle.typing_rules.specs.MeaningView as meaning_view;
 ghost use Rattle.typing_rules.specs.View as view;
 ghost use Rattle.declared_names.specs.Blocks.{DeclFound, bounds_view, decl_bounds, each_bounds};
 ghost use Rattle.typed_phrases.specs.Items.{item_end};
-ghost use Rattle.phrase_checker.specs.Checked.{ActualChecked, BoundChecked, BoundsChecked, Checked, DeclsChecked, ItemChecked, ItemsChecked, LinksChecked, ListChecked, Noted, PartsChecked, PhrasesChecked};
+ghost use Rattle.phrase_checker.specs.Checked.{ActualChecked, BoundChecked, BoundsChecked, Checked, DeclsChecked, ItemChecked, ItemsChecked, LinksChecked, ListChecked, Noted, PartsChecked, PhrasesChecked, RangeChecked, StepChecked, kind_at};
 ghost use Rattle.typed_phrases.specs.FrontViews.{front_view};
 ghost use Rattle.typed_phrases.specs.Fronts.{actual_step, list_step};
 ghost use Rattle.declared_names.specs.KnownPaths.{path_view};
@@ -24,6 +24,7 @@ ghost use Rattle.algolw_tree.specs.View.{optional_tree};
 
 use algolw_tree::{Actual, Bound, Decl, Item, Kind, Link, List, ListKind, Phrase, ProcDecl, RelOp};
 use bumpalo::Bump;
+use bumpalo::collections::into_bump_slice;
 use declared_names::{
     Bounds, KnownPath, KnownScope, array, bound_verdict, class, class_fault, declare,
     declare_labels, formal_scope, names_of_block, no_bounds, procedure, procedure_verdict,
@@ -32,8 +33,8 @@ use declared_names::{
 use std::alloc::{AllocError, Global};
 use typed_drafts::{Draft, DraftBound, DraftDecl, DraftKind};
 use typed_phrases::{
-    Front, Items, Links, Lists, Parts, Phrases, Spot, Typed, absolute, asserted, assigned, block,
-    case_do, case_value, chained, control_scope, empty, for_list, for_step, for_until, if_else,
+    Front, Items, Links, Lists, Parts, Phrases, Range, Spot, Typed, absolute, asserted, assigned,
+    block, case_do, case_value, chained, control_scope, empty, for_list, for_range, if_else,
     if_then, is_class, item_verdict, jump, leaf, left_of, named, negated, noted, quoted, read,
     relation, signed, while_do,
 };
@@ -76,20 +77,19 @@ impl<'a> Checker<'a> {
         ensures { IfOk result (λ t. Checked self.old self.new t (typed_phrase (path_view path.now) (tree phrase.now))) }
     {
         let spot = Spot {
-            alloc: self.alloc,
             arena: self.arena,
             place: phrase.place,
             first: phrase.first,
         };
         match &phrase.kind {
-            Kind::Empty => Ok(empty(spot)),
+            Kind::Empty => empty(spot),
             Kind::Null => {
                 let to_none = ValueType::Reference(ClassSet::none());
-                Ok(leaf(spot, to_none, DraftKind::Null))
+                leaf(spot, to_none, DraftKind::Null)
             }
-            Kind::Number(number) => Ok(leaf(spot, ValueType::Integer, DraftKind::Number(*number))),
-            Kind::Truth(truth) => Ok(leaf(spot, ValueType::Logical, DraftKind::Truth(*truth))),
-            Kind::BitsLit(bits) => Ok(leaf(spot, ValueType::Bits, DraftKind::BitsLit(*bits))),
+            Kind::Number(number) => leaf(spot, ValueType::Integer, DraftKind::Number(*number)),
+            Kind::Truth(truth) => leaf(spot, ValueType::Logical, DraftKind::Truth(*truth)),
+            Kind::BitsLit(bits) => leaf(spot, ValueType::Bits, DraftKind::BitsLit(*bits)),
             Kind::Negated(operand) => negated(spot, self.phrase(path, operand)?),
             Kind::Abs(operand) => absolute(spot, self.phrase(path, operand)?),
             Kind::Signed(minus, operand) => signed(spot, *minus, self.phrase(path, operand)?),
@@ -102,17 +102,14 @@ impl<'a> Checker<'a> {
             Kind::CaseDo(subject, parts) => self.case_do(path, spot, subject, parts),
             Kind::WhileDo(condition, body) => self.while_do(path, spot, condition, body),
             Kind::Assert(condition) => asserted(spot, self.phrase(path, condition)?),
-            Kind::Quoted(text) => Ok(quoted(spot, *text)),
-            Kind::Goto(name) => Ok(jump(spot, path, name)),
+            Kind::Quoted(text) => quoted(spot, *text),
+            Kind::Goto(name) => jump(spot, path, name),
             Kind::IsClass(operand, name, place) => {
                 self.is_class(path, spot, operand, name, *place)
             }
             Kind::Assign(target, value) => self.assign(path, spot, target, value),
-            Kind::ForStep(name, start, None, limit, body) => {
-                self.for_until(path, spot, name, start, limit, body)
-            }
-            Kind::ForStep(name, start, Some(step), limit, body) => {
-                self.for_step(path, spot, name, start, step, limit, body)
+            Kind::ForStep(name, start, step, limit, body) => {
+                self.for_range(path, spot, name, start, step, limit, body)
             }
             Kind::ForList(name, values, body) => self.for_list(path, spot, name, values, body),
             Kind::Named(name, lists) => self.named(path, spot, name, lists),
@@ -130,7 +127,8 @@ impl<'a> Checker<'a> {
         left: &Phrase,
         right: &Phrase,
     ) -> Result<Typed<'a>, AllocError>
-        ensures { IfOk result (λ t. Checked self.old self.new t (typed_kind (path_view path.now) spot.entry.place spot.entry.first (kinds.Relation op (tree left.now) (tree right.now)))) }
+        ensures { IfOk result (λ t. Checked self.old self.new t
+            (kind_at path.now spot.entry (kinds.Relation op (tree left.now) (tree right.now)))) }
     {
         let left = self.phrase(path, left)?;
         let right = self.phrase(path, right)?;
@@ -146,7 +144,8 @@ impl<'a> Checker<'a> {
         condition: &Phrase,
         body: &Phrase,
     ) -> Result<Typed<'a>, AllocError>
-        ensures { IfOk result (λ t. Checked self.old self.new t (typed_kind (path_view path.now) spot.entry.place spot.entry.first (kinds.WhileDo (tree condition.now) (tree body.now)))) }
+        ensures { IfOk result (λ t. Checked self.old self.new t
+            (kind_at path.now spot.entry (kinds.WhileDo (tree condition.now) (tree body.now)))) }
     {
         let condition = self.phrase(path, condition)?;
         let body = self.phrase(path, body)?;
@@ -163,7 +162,8 @@ impl<'a> Checker<'a> {
         then: &Phrase,
         otherwise: &Option<Box<Phrase>>,
     ) -> Result<Typed<'a>, AllocError>
-        ensures { IfOk result (λ t. Checked self.old self.new t (typed_kind (path_view path.now) spot.entry.place spot.entry.first (kinds.IfThen (tree condition.now) (tree then.now) (optional_tree otherwise.now)))) }
+        ensures { IfOk result (λ t. Checked self.old self.new t
+            (kind_at path.now spot.entry (kinds.IfThen (tree condition.now) (tree then.now) (optional_tree otherwise.now)))) }
     {
         let condition = self.phrase(path, condition)?;
         let then = self.phrase(path, then)?;
@@ -182,7 +182,8 @@ impl<'a> Checker<'a> {
         first: &Phrase,
         links: &[Link],
     ) -> Result<Typed<'a>, AllocError>
-        ensures { IfOk result (λ t. Checked self.old self.new t (typed_kind (path_view path.now) spot.entry.place spot.entry.first (kinds.Chain (tree first.now) (links_of (map link_tree links.now))))) }
+        ensures { IfOk result (λ t. Checked self.old self.new t
+            (kind_at path.now spot.entry (kinds.Chain (tree first.now) (links_of (map link_tree links.now))))) }
     {
         let first = self.phrase(path, first)?;
         let links = self.links(path, noted(first.verdict), links)?;
@@ -197,9 +198,10 @@ impl<'a> Checker<'a> {
         front: Verdict<'a>,
         links: &[Link],
     ) -> Result<Links<'a>, AllocError>
-        ensures { IfOk result (λ found. LinksChecked self.old self.new found (typed_links (path_view path.now) (view.verdict front.entry) (links_of (map link_tree links.now)))) }
+        ensures { IfOk result (λ found. LinksChecked self.old self.new found
+            (typed_links (path_view path.now) (view.verdict front.entry) (links_of (map link_tree links.now)))) }
     {
-        let mut found = Links::new(self.alloc, front);
+        let mut found = Links::with_capacity(self.arena, front, links.len())?;
         for link in links {
             let right = self.phrase(path, &link.right)?;
             found.add(link.op, link.place, right)?;
@@ -216,7 +218,8 @@ impl<'a> Checker<'a> {
         subject: &Phrase,
         values: &[Phrase],
     ) -> Result<Typed<'a>, AllocError>
-        ensures { IfOk result (λ t. Checked self.old self.new t (typed_kind (path_view path.now) spot.entry.place spot.entry.first (kinds.CaseValue (tree subject.now) (phrases_of (map tree values.now))))) }
+        ensures { IfOk result (λ t. Checked self.old self.new t
+            (kind_at path.now spot.entry (kinds.CaseValue (tree subject.now) (phrases_of (map tree values.now))))) }
     {
         let subject = self.phrase(path, subject)?;
         let values = self.phrases(path, values)?;
@@ -232,7 +235,8 @@ impl<'a> Checker<'a> {
         subject: &Phrase,
         parts: &[Phrase],
     ) -> Result<Typed<'a>, AllocError>
-        ensures { IfOk result (λ t. Checked self.old self.new t (typed_kind (path_view path.now) spot.entry.place spot.entry.first (kinds.CaseDo (tree subject.now) (phrases_of (map tree parts.now))))) }
+        ensures { IfOk result (λ t. Checked self.old self.new t
+            (kind_at path.now spot.entry (kinds.CaseDo (tree subject.now) (phrases_of (map tree parts.now))))) }
     {
         let subject = self.phrase(path, subject)?;
         let parts = self.phrases(path, parts)?;
@@ -246,9 +250,10 @@ impl<'a> Checker<'a> {
         path: &KnownPath<'_, 'a>,
         phrases: &[Phrase],
     ) -> Result<Phrases<'a>, AllocError>
-        ensures { IfOk result (λ found. PhrasesChecked self.old self.new found (typed_phrases (path_view path.now) (phrases_of (map tree phrases.now)))) }
+        ensures { IfOk result (λ found. PhrasesChecked self.old self.new found
+            (typed_phrases (path_view path.now) (phrases_of (map tree phrases.now)))) }
     {
-        let mut found = Phrases::new(self.alloc);
+        let mut found = Phrases::with_capacity(self.arena, phrases.len())?;
         for phrase in phrases {
             let typed = self.phrase(path, phrase)?;
             found.add(typed)?;
@@ -266,7 +271,8 @@ impl<'a> Checker<'a> {
         name: &Name,
         place: Place,
     ) -> Result<Typed<'a>, AllocError>
-        ensures { IfOk result (λ t. Checked self.old self.new t (typed_kind (path_view path.now) spot.entry.place spot.entry.first (kinds.IsClass (tree operand.now) name.now place))) }
+        ensures { IfOk result (λ t. Checked self.old self.new t
+            (kind_at path.now spot.entry (kinds.IsClass (tree operand.now) name.now place))) }
     {
         let operand = self.phrase(path, operand)?;
         class_fault(path, &(*name, place), &mut self.faults)?;
@@ -282,7 +288,8 @@ impl<'a> Checker<'a> {
         target: &Phrase,
         value: &Phrase,
     ) -> Result<Typed<'a>, AllocError>
-        ensures { IfOk result (λ t. Checked self.old self.new t (typed_kind (path_view path.now) spot.entry.place spot.entry.first (kinds.Assign (tree target.now) (tree value.now)))) }
+        ensures { IfOk result (λ t. Checked self.old self.new t
+            (kind_at path.now spot.entry (kinds.Assign (tree target.now) (tree value.now)))) }
     {
         let left = left_of(path, target);
         let target = self.phrase(path, target)?;
@@ -299,50 +306,64 @@ impl<'a> Checker<'a> {
         name: &Name,
         body: &Phrase,
     ) -> Result<Typed<'a>, AllocError>
-        ensures { IfOk result (λ t. Noted self.old self.new t (typed_phrase (scopes.control_scope place name.now ∷ path_view path.now) (tree body.now))) }
+        ensures { IfOk result (λ t. Noted self.old self.new t
+            (typed_phrase (scopes.control_scope place name.now ∷ path_view path.now) (tree body.now))) }
     {
         let scope = control_scope(self.alloc, place, *name)?;
         self.phrase(&KnownPath::Inner(&scope, &*path), body)
     }
 
-    /// Checks a FOR without a step.
+    /// Checks a FOR over a range.
     #[cycle(phrases)]
-    fn for_until(
+    fn for_range(
         &mut self,
         path: &KnownPath<'_, 'a>,
         spot: Spot<'a>,
         name: &Name,
         start: &Phrase,
+        step: &Option<Box<Phrase>>,
         limit: &Phrase,
         body: &Phrase,
     ) -> Result<Typed<'a>, AllocError>
-        ensures { IfOk result (λ t. Checked self.old self.new t (typed_kind (path_view path.now) spot.entry.place spot.entry.first (kinds.ForStep name.now (tree start.now) kinds.Missing (tree limit.now) (tree body.now)))) }
+        ensures { IfOk result (λ t. Checked self.old self.new t
+            (kind_at path.now spot.entry (kinds.ForStep name.now (tree start.now) (optional_tree step.now) (tree limit.now) (tree body.now)))) }
     {
-        let start = self.phrase(path, start)?;
-        let limit = self.phrase(path, limit)?;
+        let range = self.range(path, start, step, limit)?;
         let body = self.controlled(path, spot.place, name, body)?;
-        for_until(spot, start, limit, body)
+        for_range(spot, range, body)
     }
 
-    /// Checks a FOR with a step.
+    /// Checks the range of a FOR.
     #[cycle(phrases)]
-    fn for_step(
+    fn range(
         &mut self,
         path: &KnownPath<'_, 'a>,
-        spot: Spot<'a>,
-        name: &Name,
         start: &Phrase,
-        step: &Phrase,
+        step: &Option<Box<Phrase>>,
         limit: &Phrase,
-        body: &Phrase,
-    ) -> Result<Typed<'a>, AllocError>
-        ensures { IfOk result (λ t. Checked self.old self.new t (typed_kind (path_view path.now) spot.entry.place spot.entry.first (kinds.ForStep name.now (tree start.now) (kinds.There (tree step.now)) (tree limit.now) (tree body.now)))) }
+    ) -> Result<Range<'a>, AllocError>
+        ensures { IfOk result (λ r. RangeChecked (path_view path.now) self.old self.new r
+            (tree start.now) (optional_tree step.now) (tree limit.now)) }
     {
         let start = self.phrase(path, start)?;
-        let step = self.phrase(path, step)?;
+        let step = self.step(path, step)?;
         let limit = self.phrase(path, limit)?;
-        let body = self.controlled(path, spot.place, name, body)?;
-        for_step(spot, start, step, limit, body)
+        Ok(Range { start, step, limit })
+    }
+
+    /// Checks the step of a FOR, where there is one.
+    #[cycle(phrases)]
+    fn step(
+        &mut self,
+        path: &KnownPath<'_, 'a>,
+        step: &Option<Box<Phrase>>,
+    ) -> Result<Option<Typed<'a>>, AllocError>
+        ensures { IfOk result (λ t. StepChecked (path_view path.now) self.old self.new t (optional_tree step.now)) }
+    {
+        match step {
+            None => Ok(None),
+            Some(step) => Ok(Some(self.phrase(path, step)?)),
+        }
     }
 
     /// Checks a FOR with a list of values.
@@ -355,7 +376,8 @@ impl<'a> Checker<'a> {
         values: &[Phrase],
         body: &Phrase,
     ) -> Result<Typed<'a>, AllocError>
-        ensures { IfOk result (λ t. Checked self.old self.new t (typed_kind (path_view path.now) spot.entry.place spot.entry.first (kinds.ForList name.now (phrases_of (map tree values.now)) (tree body.now)))) }
+        ensures { IfOk result (λ t. Checked self.old self.new t
+            (kind_at path.now spot.entry (kinds.ForList name.now (phrases_of (map tree values.now)) (tree body.now)))) }
     {
         let values = self.phrases(path, values)?;
         let body = self.controlled(path, spot.place, name, body)?;
@@ -371,10 +393,12 @@ impl<'a> Checker<'a> {
         name: &Name,
         lists: &[List],
     ) -> Result<Typed<'a>, AllocError>
-        ensures { IfOk result (λ t. Checked self.old self.new t (typed_kind (path_view path.now) spot.entry.place spot.entry.first (kinds.Named name.now (lists_of (map list_tree lists.now))))) }
+        ensures { IfOk result (λ t. Checked self.old self.new t
+            (kind_at path.now spot.entry (kinds.Named name.now (lists_of (map list_tree lists.now))))) }
     {
         let target = path.declared(name);
-        let mut found = Lists::new(self.alloc, Front::Name(spot.place, target));
+        let front = Front::Name(spot.place, target);
+        let mut found = Lists::with_capacity(self.arena, front, lists.len())?;
         for list in lists {
             self.list(path, list, &mut found)?;
         }
@@ -389,7 +413,8 @@ impl<'a> Checker<'a> {
         list: &List,
         found: &mut Lists<'a>,
     ) -> Result<(), AllocError>
-        ensures { (x : std.List ℕ) → OnOk result (ListChecked x self.old self.new found.old found.new (list_step (path_view path.now) (front_view x found.old.front) (list_tree list.now))) }
+        ensures { (x : std.List ℕ) → OnOk result (ListChecked x self.old self.new found.old found.new
+            (list_step (path_view path.now) (front_view x found.old.front) (list_tree list.now))) }
     {
         match &list.kind {
             ListKind::Actuals(actuals) => {
@@ -399,7 +424,7 @@ impl<'a> Checker<'a> {
             }
             ListKind::Part(start, length) => {
                 let start = self.phrase(path, start)?;
-                found.add_part(self.alloc, list.place, start, *length)?;
+                found.add_part(list.place, start, *length)?;
                 Ok(())
             }
         }
@@ -413,10 +438,11 @@ impl<'a> Checker<'a> {
         reading: Reading<'a>,
         actuals: &[Actual],
     ) -> Result<Parts<'a>, AllocError>
-        ensures { IfOk result (λ found. PartsChecked self.old self.new found (typed_parts (path_view path.now) (meaning_view.reading reading.entry) (actuals_of (map actual_tree actuals.now)))) }
+        ensures { IfOk result (λ found. PartsChecked self.old self.new found
+            (typed_parts (path_view path.now) (meaning_view.reading reading.entry) (actuals_of (map actual_tree actuals.now)))) }
     {
         let mut reading = reading;
-        let mut found = Parts::new(self.alloc);
+        let mut found = Parts::with_capacity(self.arena, actuals.len())?;
         for actual in actuals {
             self.actual(path, reading.wanted(), actual, &mut found)?;
             reading = reading.behind();
@@ -433,13 +459,14 @@ impl<'a> Checker<'a> {
         actual: &Actual,
         found: &mut Parts<'a>,
     ) -> Result<(), AllocError>
-        ensures { OnOk result (ActualChecked self.old self.new found.old found.new (actual_step (path_view path.now) (meaning_view.wanted wanted.entry) (actual_tree actual.now))) }
+        ensures { OnOk result (ActualChecked self.old self.new found.old found.new
+            (actual_step (path_view path.now) (meaning_view.wanted wanted.entry) (actual_tree actual.now))) }
     {
         match actual {
             Actual::Star(place) => found.add_star(*place),
             Actual::Phrase(phrase) => {
                 let typed = self.inside(path, phrase)?;
-                let given = read(self.alloc, path, wanted, phrase, typed)?;
+                let given = read(self.arena, path, wanted, phrase, typed)?;
                 self.note(given.verdict)?;
                 found.add(given.part, given.draft)?;
                 Ok(())
@@ -456,7 +483,8 @@ impl<'a> Checker<'a> {
         decls: &[Decl],
         items: &[Item],
     ) -> Result<Typed<'a>, AllocError>
-        ensures { IfOk result (λ t. Checked self.old self.new t (typed_kind (path_view path.now) spot.entry.place spot.entry.first (kinds.Block (decls_of (map decl_tree decls.now)) (items_of (map item_tree items.now))))) }
+        ensures { IfOk result (λ t. Checked self.old self.new t
+            (kind_at path.now spot.entry (kinds.Block (decls_of (map decl_tree decls.now)) (items_of (map item_tree items.now))))) }
     {
         let names = names_of_block(self.alloc, decls, items)?;
         twice(&names, &mut self.faults)?;
@@ -466,7 +494,7 @@ impl<'a> Checker<'a> {
         let inner = KnownPath::Inner(&scope, &*path);
         let decls = self.decls(&inner, decls, bounds)?;
         let items = self.items(&inner, items)?;
-        Ok(block(spot, decls, items))
+        block(spot, decls, items)
     }
 
     /// Checks the declarations of a block as far as their names ask for it: what the block declares, and the bounds of each
@@ -478,18 +506,20 @@ impl<'a> Checker<'a> {
         names: &KnownPath<'_, 'a>,
         decls: &[Decl],
         scope: &mut KnownScope<'a>,
-    ) -> Result<Vec<Bounds<'a>>, AllocError>
+    ) -> Result<&'a [Bounds<'a>], AllocError>
         ensures faults { OnOk result (self.new.faults.items ≡ self.old.faults.items) }
-        ensures scope { OnOk result (scope.new ≡ scope.old ++ rules.meanings (path_view path.now) (path_view names.now) (decls_of (map decl_tree decls.now))) }
-        ensures bounds { IfOk result (λ bs. map bounds_view bs.items ≡ each_bounds (path_view path.now) (map decl_tree decls.now)) }
+        ensures scope { OnOk result (scope.new ≡ scope.old ++
+            rules.meanings (path_view path.now) (path_view names.now) (decls_of (map decl_tree decls.now))) }
+        ensures bounds { IfOk result (λ bs. map bounds_view bs.now
+            ≡ each_bounds (path_view path.now) (map decl_tree decls.now)) }
     {
-        let mut found = Vec::with_capacity(self.alloc, decls.len())?;
+        let mut found = Vec::with_capacity(self.arena, decls.len())?;
         for decl in decls {
             let bounds = self.decl_bounds(path, decl)?;
-            declare(self.alloc, self.arena, names, decl, &bounds, scope)?;
+            declare(self.alloc, self.arena, names, decl, bounds, scope)?;
             found.push(bounds)?;
         }
-        Ok(found)
+        Ok(into_bump_slice(found))
     }
 
     /// Checks the bounds of a declaration, which none but an array's has, and keeps the faults in them.
@@ -503,11 +533,12 @@ impl<'a> Checker<'a> {
         ensures bounds { IfOk result (λ b. bounds_view b ≡ decl_bounds (path_view path.now) (decl_tree decl.now)) }
     {
         let Decl::Array(_, _, bounds) = decl else {
-            return Ok(no_bounds(self.alloc));
+            return Ok(no_bounds());
         };
         let before = std::mem::replace(&mut self.faults, Vec::new(self.alloc));
         let drafts = self.bounds(path, bounds)?;
-        let faults = std::mem::replace(&mut self.faults, before);
+        let found = std::mem::replace(&mut self.faults, before);
+        let faults = kept(self.arena, &found)?;
         Ok(Bounds { faults, drafts })
     }
 
@@ -517,14 +548,15 @@ impl<'a> Checker<'a> {
         &mut self,
         path: &KnownPath<'_, 'a>,
         bounds: &[Bound],
-    ) -> Result<Vec<DraftBound<'a>>, AllocError>
-        ensures { IfOk result (λ found. BoundsChecked self.old self.new found (typed_bounds (path_view path.now) (bounds_of (map bound_tree bounds.now)))) }
+    ) -> Result<&'a [DraftBound<'a>], AllocError>
+        ensures { IfOk result (λ found. BoundsChecked self.old self.new found.now
+            (typed_bounds (path_view path.now) (bounds_of (map bound_tree bounds.now)))) }
     {
-        let mut found = Vec::with_capacity(self.alloc, bounds.len())?;
+        let mut found = Vec::with_capacity(self.arena, bounds.len())?;
         for bound in bounds {
             found.push(self.bound(path, bound)?)?;
         }
-        Ok(found)
+        Ok(into_bump_slice(found))
     }
 
     /// Checks the bounds of a dimension.
@@ -534,15 +566,17 @@ impl<'a> Checker<'a> {
         path: &KnownPath<'_, 'a>,
         bound: &Bound,
     ) -> Result<DraftBound<'a>, AllocError>
-        ensures { IfOk result (λ b. BoundChecked self.old self.new b bound.now.place (typed_phrase (path_view path.now) (tree bound.now.lower)) (typed_phrase (path_view path.now) (tree bound.now.upper))) }
+        ensures { IfOk result (λ b. BoundChecked self.old self.new b bound.now.place
+            (typed_phrase (path_view path.now) (tree bound.now.lower))
+            (typed_phrase (path_view path.now) (tree bound.now.upper))) }
     {
         let lower = self.phrase(path, &bound.lower)?;
         let upper = self.phrase(path, &bound.upper)?;
         self.note(bound_verdict(bound.place, lower.verdict, upper.verdict))?;
         Ok(DraftBound {
             place: bound.place,
-            lower: lower.draft,
-            upper: upper.draft,
+            lower: *lower.draft,
+            upper: *upper.draft,
         })
     }
 
@@ -552,18 +586,18 @@ impl<'a> Checker<'a> {
         &mut self,
         path: &KnownPath<'_, 'a>,
         decls: &[Decl],
-        bounds: Vec<Bounds<'a>>,
-    ) -> Result<Vec<DraftDecl<'a>>, AllocError>
-        requires { length bounds.items ≡ length decls.now }
-        ensures { (around : Scopes) → map bounds_view bounds.entry.items ≡ each_bounds around (map decl_tree decls.now) → IfOk result (λ ds. DeclsChecked self.old self.new ds (typed_decls around (path_view path.now) (decls_of (map decl_tree decls.now)))) }
+        bounds: &[Bounds<'a>],
+    ) -> Result<&'a [DraftDecl<'a>], AllocError>
+        requires { length bounds.now ≡ length decls.now }
+        ensures { (around : Scopes) → map bounds_view bounds.now ≡ each_bounds around (map decl_tree decls.now) →
+            IfOk result (λ ds. DeclsChecked self.old self.new ds.now (typed_decls around (path_view path.now) (decls_of (map decl_tree decls.now)))) }
     {
-        let mut found = Vec::with_capacity(self.alloc, decls.len())?;
-        let mut bounds = bounds.into_iter();
-        for decl in decls {
-            let own = bounds.next().unwrap();
-            found.push(self.decl(path, decl, own)?)?;
+        let mut found = Vec::with_capacity(self.arena, decls.len())?;
+        for (position, decl) in decls.iter().enumerate() {
+            let decl = self.decl(path, decl, bounds[position])?;
+            found.push(decl)?;
         }
-        Ok(found)
+        Ok(into_bump_slice(found))
     }
 
     /// Checks a declaration, of which these bounds are checked.
@@ -574,14 +608,12 @@ impl<'a> Checker<'a> {
         decl: &Decl,
         bounds: Bounds<'a>,
     ) -> Result<DraftDecl<'a>, AllocError>
-        ensures { (around : Scopes) → bounds_view bounds.entry ≡ decl_bounds around (decl_tree decl.now) → IfOk result (λ d. DeclFound self.old.faults.items self.new.faults.items d (typed_decl around (path_view path.now) (decl_tree decl.now))) }
+        ensures { (around : Scopes) → bounds_view bounds.entry ≡ decl_bounds around (decl_tree decl.now) →
+            IfOk result (λ d. DeclFound self.old.faults.items self.new.faults.items d (typed_decl around (path_view path.now) (decl_tree decl.now))) }
     {
         match decl {
-            Decl::Simple(spec, names) => {
-                simple(self.alloc, self.arena, path, spec, names, &mut self.faults)
-            }
+            Decl::Simple(spec, names) => { simple(self.arena, path, spec, names, &mut self.faults) }
             Decl::Array(spec, names, sizes) => array(
-                self.alloc,
                 self.arena,
                 path,
                 spec,
@@ -591,9 +623,7 @@ impl<'a> Checker<'a> {
                 &mut self.faults,
             ),
             Decl::Proc(procedure) => self.procedure(path, procedure),
-            Decl::Class(declared) => {
-                class(self.alloc, self.arena, path, declared, &mut self.faults)
-            }
+            Decl::Class(declared) => { class(self.arena, path, declared, &mut self.faults) }
         }
     }
 
@@ -604,10 +634,10 @@ impl<'a> Checker<'a> {
         path: &KnownPath<'_, 'a>,
         declared: &ProcDecl,
     ) -> Result<DraftDecl<'a>, AllocError>
-        ensures { (around : Scopes) → IfOk result (λ d. DeclFound self.old.faults.items self.new.faults.items d (typed_decl around (path_view path.now) (procedure_tree declared.now))) }
+        ensures { (around : Scopes) →
+            IfOk result (λ d. DeclFound self.old.faults.items self.new.faults.items d (typed_decl around (path_view path.now) (procedure_tree declared.now))) }
     {
         let head = read_head(
-            self.alloc,
             self.arena,
             path,
             &declared.result,
@@ -617,22 +647,17 @@ impl<'a> Checker<'a> {
         let formals = formal_scope(self.alloc, self.arena, path, &declared.formals)?;
         twice(&formals, &mut self.faults)?;
         let body = self.phrase(&KnownPath::Inner(&formals, &*path), &declared.body)?;
-        self.note(procedure_verdict(declared.place, &head, body.verdict))?;
-        procedure(
-            self.alloc,
-            declared.place,
-            declared.name.1,
-            head,
-            body.draft,
-        )
+        self.note(procedure_verdict(declared.place, head, body.verdict))?;
+        Ok(procedure(declared.place, declared.name.1, head, body.draft))
     }
 
     /// Checks the items of a block.
     #[cycle(phrases)]
     fn items(&mut self, path: &KnownPath<'_, 'a>, items: &[Item]) -> Result<Items<'a>, AllocError>
-        ensures { IfOk result (λ found. ItemsChecked self.old self.new found (typed_items (path_view path.now) (Good Statement) (items_of (map item_tree items.now)))) }
+        ensures { IfOk result (λ found. ItemsChecked self.old self.new found
+            (typed_items (path_view path.now) (Good Statement) (items_of (map item_tree items.now)))) }
     {
-        let mut found = Items::new(self.alloc);
+        let mut found = Items::with_capacity(self.arena, items.len())?;
         for (position, item) in items.iter().enumerate() {
             let is_last = position + 1 == items.len();
             self.item(path, is_last, item, &mut found)?;
@@ -649,20 +674,30 @@ impl<'a> Checker<'a> {
         item: &Item,
         found: &mut Items<'a>,
     ) -> Result<(), AllocError>
-        ensures { OnOk result (ItemChecked self.old self.new found.old found.new item.now.labels.items (typed_phrase (path_view path.now) (tree item.now.phrase)) (item_end is_last item.now.labels.items (tree item.now.phrase) (typed_phrase (path_view path.now) (tree item.now.phrase)))) }
+        ensures { OnOk result (ItemChecked self.old self.new found.old found.new item.now.labels.items
+            (typed_phrase (path_view path.now) (tree item.now.phrase))
+            (item_end is_last item.now.labels.items (tree item.now.phrase)
+            (typed_phrase (path_view path.now) (tree item.now.phrase)))) }
     {
         let typed = self.phrase(path, &item.phrase)?;
         let verdict = item_verdict(is_last, &item.labels, item.phrase.first, typed.verdict);
         self.note(verdict)?;
-        found.add(self.alloc, &item.labels, typed.draft, verdict)
+        found.add(self.arena, &item.labels, typed.draft, verdict)
     }
+}
+
+/// Faults that are kept, in the arena.
+fn kept<'a>(arena: &'a Bump, faults: &[Diagnostic]) -> Result<&'a [Diagnostic], AllocError>
+    ensures { IfOk result (λ kept. kept.now ≡ faults.now) }
+{
+    Ok(arena.try_alloc_slice_copy(faults)?)
 }
 
 /// What is found of a program, and all its faults, in the order of the rules.
 #[derive(Drop)]
 pub struct FoundProgram<'a> {
     /// The program.
-    pub draft: Draft<'a>,
+    pub draft: &'a Draft<'a>,
     /// The faults.
     pub faults: Vec<Diagnostic>,
 }
@@ -683,8 +718,9 @@ pub fn check_program<'a>(
     arena: &'a Bump,
     phrase: &Phrase,
 ) -> Result<FoundProgram<'a>, AllocError>
-    ensures draft { IfOk result (λ found. draft_view found.draft ≡ (typed_program (tree phrase.now)).node) }
-    ensures faults { IfOk result (λ found. found.faults.items ≡ faults_found (tree phrase.now) (typed_program (tree phrase.now))) }
+    ensures draft { IfOk result (λ found. draft_view found.draft.now ≡ (typed_program (tree phrase.now)).node) }
+    ensures faults { IfOk result (λ found. found.faults.items
+        ≡ faults_found (tree phrase.now) (typed_program (tree phrase.now))) }
 {
     let mut checker = Checker {
         alloc,

@@ -1,6 +1,6 @@
 -- Texts that are put one behind the other on a line that is cut.
-use Rattle.std.proofs.Common.{◌≡◌, ℕ, zero, suc, ◌-◌, ◌≤◌, ◌==◌, List, [], ◌∷◌, ◌++◌, length, take, refl, ap, ◌∙◌, append_assoc, arith}
-use Rattle.std.proofs.lemmas.List.{take_all, length-take}
+use Rattle.std.proofs.Common.{◌≡◌, ℕ, zero, suc, ◌+◌, ◌-◌, ◌≤◌, ◌==◌, List, [], ◌∷◌, ◌++◌, length, take, refl, ap, ◌∙◌, append_assoc, arith}
+use Rattle.std.proofs.lemmas.List.{take_all, length-append, length-take}
 use Rattle.std.specs.List.{suffix_len}
 use Rattle.short_text.specs.Blanks.{trimmed}
 
@@ -25,3 +25,7 @@ four line w x y z a b c d first second third = both line (w ++ x ++ y) z c d (th
 -- a text without its end blanks is no longer than it was
 pub take-trimmed : (n : ℕ) (text : List ℕ) → length text ≤ n → take n (trimmed text) ≡ trimmed text
 take-trimmed n text short = take_all n (trimmed text) (omega (arith, short, length-take (length text - suffix_len (λ b. b == 32) text) text))
+
+-- texts that are put on an empty line with room for them aren't cut
+pub three_fit : (x y z a b c : List ℕ) → length x + length y + length z ≤ 132 → a ≡ take 132 ([] ++ x) → b ≡ take 132 (a ++ y) → c ≡ take 132 (b ++ z) → c ≡ x ++ y ++ z
+three_fit x y z a b c fits first second third = three [] x y z a b c first second third ∙ take_all 132 (x ++ y ++ z) (omega (arith, fits, length-append (x ++ y) z, length-append x y))

@@ -61,14 +61,22 @@ fn append_name(line: &mut Line, name: &Name)
     line.append(name.as_slice());
 }
 
+/// A card and a column, as they are shown.
+pub fn place_line(place: Place) -> Line
+    ensures { result ≡ place_text place }
+{
+    let mut line = Line::new();
+    append_number(&mut line, u32::from(place.card));
+    line.append(b",");
+    append_number(&mut line, u32::from(place.column));
+    line
+}
+
 /// Puts a card and a column behind a line, or as much of it as fits.
-#[tactic(auto, using(crate::proofs::Cut::both))]
 fn append_place(line: &mut Line, place: Place)
     ensures { line.new ≡ take 132 (line.old ++ place_text place) }
 {
-    append_number(line, u32::from(place.card));
-    line.append(b",");
-    append_number(line, u32::from(place.column));
+    line.append(place_line(place).as_slice());
 }
 
 /// Puts what a name stands for behind a line, or as much of it as fits.

@@ -8,6 +8,6 @@ mod source;
 #[cfg(test)]
 mod tests;
 
-pub use dump::dump_line;
+pub use dump::{dump_line, place_line};
 pub use entries::{Dimensions, Entry, Shown};
 pub use source::source_line;

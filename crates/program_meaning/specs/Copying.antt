@@ -1,7 +1,8 @@
 -- What a phrase does, by copying: a call means a copy of the procedure's body in which the formals are replaced.
-use Rattle.std.specs.Prelude.{ℕ, zero, suc, ◌+◌, ◌-◌, ◌*◌, ℤ, pos, negsuc, ◌+ℤ◌, int_le, List, [], ◌∷◌, ◌++◌, map, length, replicate, Option, Some, None, Bool, true, false, not, ◌&&◌, nat_eq, nat_lt, slice_get}
+use Rattle.std.specs.Prelude.{ℕ, zero, suc, ◌+◌, ◌-◌, ◌*◌, ℤ, pos, negsuc, ◌+ℤ◌, int_le, List, [], ◌∷◌, ◌++◌, map, length, replicate, Option, Some, None, Result, Ok, Err, Bool, true, false, not, ◌&&◌, nat_eq, nat_lt, slice_get}
 use Rattle.std.specs.Ordering.{int_eq}
 use Rattle.value_ops.specs.declared.places.Place.{Place}
+use Rattle.value_ops.specs.declared.faults.Fault.{Fault}
 use Rattle.value_ops.specs.declared.faults.Fault.TheVariants as fault
 use Rattle.value_ops.specs.declared.values.Value.{Value}
 use Rattle.value_ops.specs.declared.values.Value.TheVariants as value
@@ -306,9 +307,10 @@ abbrev pub scan : {P : Type 0} → Setting → Place → Bool → Option SimpleT
 scan set w next None = halt wrong w
 scan set w next (Some t) = read_so_far >>= λ n. scan_answer w (scanned set.cards (read_from next n) t)
 
-abbrev pub string_read : (Rattle.std.specs.Prelude.Result (List ℕ × ℕ) Rattle.value_ops.specs.declared.faults.Fault.Fault) → Rattle.std.specs.Prelude.Result (Value × ℕ) Rattle.value_ops.specs.declared.faults.Fault.Fault
-string_read (Rattle.std.specs.Prelude.Ok (text, n)) = Rattle.std.specs.Prelude.Ok (value.Str text, n)
-string_read (Rattle.std.specs.Prelude.Err f) = Rattle.std.specs.Prelude.Err f
+-- a card that is read, as the value that it is
+abbrev pub string_read : Result (List ℕ × ℕ) Fault → Result (Value × ℕ) Fault
+string_read (Ok (text, n)) = Ok (value.Str text, n)
+string_read (Err f) = Err f
 
 -- the next card, as a STRING(80)
 abbrev pub take_card : {P : Type 0} → Setting → Place → M P Value

@@ -356,13 +356,14 @@ all_within (bound ∷ bounds) (Some i ∷ subscripts) = is_within bound i && all
 all_within (bound ∷ bounds) (None ∷ subscripts) = all_within bounds subscripts
 all_within bounds subscripts = true
 
--- how many there are from one to the other, none where the upper is below
-abbrev pub count_of : ℤ → ℕ
-count_of (pos n) = n
-count_of (negsuc n) = 0
+-- an integer, and 0 in place of one below 0
+abbrev pub at_least_zero : ℤ → ℕ
+at_least_zero (pos n) = n
+at_least_zero (negsuc n) = 0
 
+-- how many there are from one to the other, none where the upper is below
 abbrev pub extent : ℤ × ℤ → ℕ
-extent bound = count_of (bound.1 -ℤ bound.0 +ℤ pos 1)
+extent bound = at_least_zero (bound.1 -ℤ bound.0 +ℤ pos 1)
 
 abbrev pub elements : List (ℤ × ℤ) → ℕ
 elements [] = 1
@@ -370,7 +371,7 @@ elements (bound ∷ bounds) = extent bound * elements bounds
 
 -- where an element is among the elements
 abbrev pub offset : List (ℤ × ℤ) → List (Option ℤ) → ℕ
-offset (bound ∷ bounds) (Some i ∷ subscripts) = count_of (i -ℤ bound.0) * elements bounds + offset bounds subscripts
+offset (bound ∷ bounds) (Some i ∷ subscripts) = at_least_zero (i -ℤ bound.0) * elements bounds + offset bounds subscripts
 offset (bound ∷ bounds) (None ∷ subscripts) = offset bounds subscripts
 offset bounds subscripts = 0
 

@@ -1,5 +1,5 @@
 -- A typed tree whose names, classes and statements are known has a number for each.
-use Rattle.std.proofs.Common.{◌≡◌, Bool, true, false, ◌||◌, List, [], ◌∷◌, ◌++◌, Option, Some, None, refl, sym, ap, ◌∙◌}
+use Rattle.std.proofs.Common.{◌≡◌, Bool, true, false, ◌||◌, List, [], ◌∷◌, ◌++◌, Option, Some, None, refl, ap, ◌∙◌}
 use Rattle.std.proofs.lemmas.Bool.{or_left, or_right}
 use Rattle.value_ops.specs.declared.places.Place.{Place}
 use Rattle.algolw_typing.specs.Known.{AllHad, Knows, KnowsKind, KnowsPerhaps, KnowsNodes, KnowsLinks, KnowsLists, KnowsActuals, KnowsItems, KnowsBounds, KnowsDecls, KnowsDecl}

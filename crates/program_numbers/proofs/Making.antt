@@ -4,7 +4,7 @@ use Rattle.std.specs.Result.{IfOk}
 use Rattle.std.proofs.lemmas.List.{map_more, take_all, map-append}
 use Rattle.record_classes.specs.Classes.{Classes}
 use Rattle.algolw_typing.specs.ProgramView.{Numbers}
-use Rattle.program_numbers.specs.Makes.{Sets, Follows, AllRise, Makes, numbers_in}
+use Rattle.program_numbers.specs.Makes.{Sets, Follows, Makes, numbers_in}
 use Rattle.program_numbers.specs.declared.numbering.Numbering.{Numbering}
 
 pub follows_itself : (sets : Sets) → Follows sets sets

@@ -1,5 +1,5 @@
 -- What kinds of phrases, lists and declarations are, by what was made of their parts.
-use Rattle.std.proofs.Common.{◌≡◌, ℕ, ℤ, List, Option, map, refl, ap, ◌∙◌}
+use Rattle.std.proofs.Common.{◌≡◌, ℕ, List, Option, map, refl, ap, ◌∙◌}
 use Rattle.std.specs.Option.{option_map}
 use Rattle.std.specs.declared.vec.Vec.{Vec}
 use Rattle.std.specs.declared.alloc.Global.{Global}
@@ -21,9 +21,9 @@ use Rattle.algolw_tree.specs.declared.programs.TypedFormal.{TypedFormal}
 use Rattle.algolw_tree.specs.declared.programs.TypedProc.{roll-TypedProc}
 use Rattle.algolw_typing.specs.Types as types
 use Rattle.algolw_typing.specs.Typed as typed
-use Rattle.algolw_typing.specs.ProgramView.{Numbers, numbered, at_view, node_view, kind_view, listing_view, actual_view, decl_view, gives_view, type_view, formal_view, target_view, targets_view, procedure_view}
+use Rattle.algolw_typing.specs.ProgramView.{numbered, at_view, node_view, kind_view, listing_view, actual_view, decl_view, gives_view, type_view, formal_view, targets_view, procedure_view}
 use Rattle.typed_drafts.specs.Onto.{nodes_onto, links_onto, lists_onto, actuals_onto, items_onto, decls_onto, bounds_onto}
-use Rattle.program_numbers.specs.Makes.{Sets, Makes, numbers_in, target_in}
+use Rattle.program_numbers.specs.Makes.{Makes, numbers_in, target_in}
 use Rattle.program_numbers.specs.ProgramParts.{perhaps_in, link_in, list_in, item_in, bound_in}
 use Rattle.program_numbers.specs.declared.numbering.Numbering.{Numbering}
 use Rattle.program_numbers.proofs.Making.{makes_of, makes_both, made_two, made_three}

@@ -1,5 +1,5 @@
 -- The parts of a procedure, as a draft and in memory.
-use Rattle.std.proofs.Common.{◌≡◌, ℕ, List, Option, map, refl, sym, ap, ◌∙◌}
+use Rattle.std.proofs.Common.{◌≡◌, ℕ, Option, map, refl}
 use Rattle.std.specs.Option.{option_map}
 use Rattle.std.specs.declared.vec.Vec.{Vec}
 use Rattle.std.specs.declared.alloc.Global.{Global}
@@ -8,26 +8,17 @@ use Rattle.value_ops.specs.declared.places.Place.{Place}
 use Rattle.value_ops.specs.declared.values.SimpleType.{SimpleType}
 use Rattle.algolw_tree.specs.declared.programs.Node.{Node}
 use Rattle.algolw_tree.specs.declared.programs.TypedFormal.{TypedFormal}
-use Rattle.algolw_tree.specs.declared.programs.TypedProc.{TypedProc, TypedProc', roll-TypedProc}
+use Rattle.algolw_tree.specs.declared.programs.TypedProc.{roll-TypedProc}
 use Rattle.algolw_typing.specs.ProgramView as program
 use Rattle.algolw_typing.specs.ProgramView.{Numbers}
 use Rattle.algolw_typing.specs.Typed as typed
 use Rattle.typing_rules.specs.View.{value_type}
-use Rattle.typed_drafts.specs.declared.drafts.Draft.{Draft}
-use Rattle.typed_drafts.specs.declared.drafts.DraftFormal.{DraftFormal}
 use Rattle.typed_drafts.specs.declared.drafts.DraftProc.{DraftProc, DraftProc', out-DraftProc}
 use Rattle.typed_drafts.specs.DraftView.{draft_view, formal_view, place_view, procedure_view}
 
-parts_of : (p : DraftProc) → procedure_view p ≡ typed.Proc (out-DraftProc p).place (option_map value_type (out-DraftProc p).result) (place_view (out-DraftProc p).name) (map formal_view (out-DraftProc p).formals.items) (draft_view (out-DraftProc p).body.value)
+pub procedure_at : (p : DraftProc) → procedure_view p ≡ typed.Proc (out-DraftProc p).place (option_map value_type (out-DraftProc p).result) (place_view (out-DraftProc p).name) (map formal_view (out-DraftProc p).formals.now) (draft_view (out-DraftProc p).body.now)
 unfolding out-DraftProc denote.Hole.Carrier.out
-parts_of (DraftProc' place result name formals q at first kind gives statement) = refl
-
-pub procedure_at : (p : DraftProc) (fs : List DraftFormal) (b : Draft) → fs ≡ (out-DraftProc p).formals.items → b ≡ (out-DraftProc p).body.value
-    → procedure_view p ≡ typed.Proc (out-DraftProc p).place (option_map value_type (out-DraftProc p).result) (place_view (out-DraftProc p).name) (map formal_view fs) (draft_view b)
-procedure_at p fs b e1 e2 =
-    parts_of p
-    ∙ ap (λ xs. typed.Proc (out-DraftProc p).place (option_map value_type (out-DraftProc p).result) (place_view (out-DraftProc p).name) (map formal_view xs) (draft_view (out-DraftProc p).body.value)) (sym e1)
-    ∙ ap (λ x. typed.Proc (out-DraftProc p).place (option_map value_type (out-DraftProc p).result) (place_view (out-DraftProc p).name) (map formal_view fs) (draft_view x)) (sym e2)
+procedure_at (DraftProc' place result name formals q at first kind gives statement) = refl
 
 pub procedure_in : (ns : Numbers) (place : Place) (t : Option SimpleType) (m : ℕ × Place) (fs : Vec TypedFormal Global) (x : Box Node Global)
     → program.procedure_view ns (roll-TypedProc (record { place = place; result = t; name = m; formals = fs; body = x })) ≡ typed.Proc place (option_map (program.type_view ns) t) (program.target_view ns m) (map (program.formal_view ns) fs.items) (program.node_view ns x.value)

@@ -1,5 +1,5 @@
 -- The record classes of a table, and the program in memory as a whole.
-use Rattle.std.proofs.Common.{◌≡◌, ℕ, ◌+◌, ◌<◌, List, [], ◌∷◌, ◌++◌, map, take, length, get_or, refl, sym, ap, subst, ◌∙◌}
+use Rattle.std.proofs.Common.{◌≡◌, ℕ, ◌+◌, ◌<◌, List, [], ◌∷◌, ◌++◌, map, take, length, get_or, sym, ap, subst, ◌∙◌}
 use Rattle.std.proofs.lemmas.List.{map-append, take_more}
 use Rattle.value_ops.specs.declared.values.SimpleType.{SimpleType}
 use Rattle.value_ops.specs.declared.places.Place.{Place}
@@ -10,7 +10,7 @@ use Rattle.algolw_typing.specs.Naming.{Class}
 use Rattle.algolw_typing.specs.Programs.{TypedProgram}
 use Rattle.algolw_typing.specs.ProgramView.{Numbers, HoldsProgram, numbers_of, node_view, class_in_table}
 use Rattle.program_numbers.specs.HoldsClasses.{HoldsClasses, field_in, named_class}
-use Rattle.program_numbers.specs.Makes.{Sets, Follows, AllRise, Makes, numbers_in}
+use Rattle.program_numbers.specs.Makes.{Sets, AllRise, Makes, numbers_in}
 use Rattle.program_numbers.specs.declared.numbering.Numbering.{Numbering}
 use Rattle.program_numbers.proofs.Making.{follows_itself, follows_on}
 

@@ -1,5 +1,5 @@
 -- What a program in memory has in its rows, read at the vectors' items.
-use Rattle.std.proofs.Common.{◌≡◌, ℕ, List, Option, Some, None, map, refl, ap, ◌∙◌}
+use Rattle.std.proofs.Common.{◌≡◌, ℕ, Option, Some, None, map, refl, ap, ◌∙◌}
 use Rattle.std.specs.declared.vec.Vec.{Vec}
 use Rattle.std.specs.declared.alloc.Global.{Global}
 use Rattle.std.specs.declared.boxed.Box.{Box}
@@ -11,8 +11,8 @@ use Rattle.algolw_tree.specs.declared.programs.TypedList.{TypedList}
 use Rattle.algolw_tree.specs.declared.programs.TypedItem.{TypedItem}
 use Rattle.algolw_tree.specs.declared.programs.TypedActual.{TypedActual}
 use Rattle.algolw_tree.specs.declared.programs.TypedBound.{TypedBound}
-use Rattle.algolw_tree.specs.declared.programs.NodeKind.{NodeKind, Named, Chain, IfThen, CaseValue, CaseDo, ForStep, ForList, Block, Row_of-Node, end_of-Node, more_of-Node, items-the_row-Node, Row_of-TypedLink, end_of-TypedLink, more_of-TypedLink, items-the_row-TypedLink, Row_of-TypedList, end_of-TypedList, more_of-TypedList, items-the_row-TypedList, Row_of-TypedItem, end_of-TypedItem, more_of-TypedItem, items-the_row-TypedItem, Row_of-TypedDecl, end_of-TypedDecl, more_of-TypedDecl, items-the_row-TypedDecl}
-use Rattle.algolw_tree.specs.declared.programs.TypedListKind.{TypedListKind, Actuals, Row_of-TypedActual, end_of-TypedActual, more_of-TypedActual, items-the_row-TypedActual}
+use Rattle.algolw_tree.specs.declared.programs.NodeKind.{Named, Chain, IfThen, CaseValue, CaseDo, ForStep, ForList, Block, Row_of-Node, end_of-Node, more_of-Node, items-the_row-Node, Row_of-TypedLink, end_of-TypedLink, more_of-TypedLink, items-the_row-TypedLink, Row_of-TypedList, end_of-TypedList, more_of-TypedList, items-the_row-TypedList, Row_of-TypedItem, end_of-TypedItem, more_of-TypedItem, items-the_row-TypedItem, Row_of-TypedDecl, end_of-TypedDecl, more_of-TypedDecl, items-the_row-TypedDecl}
+use Rattle.algolw_tree.specs.declared.programs.TypedListKind.{Actuals, Row_of-TypedActual, end_of-TypedActual, more_of-TypedActual, items-the_row-TypedActual}
 use Rattle.algolw_tree.specs.declared.programs.TypedDecl.{TypedDecl, Array, Row_of-TypedBound, end_of-TypedBound, more_of-TypedBound, items-the_row-TypedBound}
 use Rattle.algolw_tree.specs.declared.programs.NodeKind.TheBlock.{hidden-the_row-TypedList-0, items_hidden-the_row-TypedList-0, hidden-the_row-TypedLink-1, items_hidden-the_row-TypedLink-1, hidden-the_row-Node-2, items_hidden-the_row-Node-2, hidden-the_row-TypedDecl-3, items_hidden-the_row-TypedDecl-3, hidden-the_row-TypedItem-4, items_hidden-the_row-TypedItem-4, hidden-the_row-TypedBound-5, items_hidden-the_row-TypedBound-5, hidden-the_row-TypedActual-6, items_hidden-the_row-TypedActual-6}
 use Rattle.algolw_typing.specs.Typed as typed

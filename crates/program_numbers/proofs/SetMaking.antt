@@ -1,21 +1,21 @@
 -- The number of a set that is added to a table.
-use Rattle.std.proofs.Common.{◌≡◌, ◌==◌, ℕ, suc, ◌+◌, ◌<◌, ◌≤◌, Bool, true, false, ◌||◌, cond, nat_lt, List, [], ◌∷◌, ◌++◌, map, length, get_or, refl, sym, ap, subst, ◌∙◌, arith, inl, inr, length-append, Result, Ok, Err}
+use Rattle.std.proofs.Common.{◌≡◌, ◌==◌, ℕ, suc, ◌+◌, ◌<◌, ◌≤◌, Bool, true, false, cond, nat_lt, List, [], ◌∷◌, ◌++◌, map, length, get_or, refl, sym, ap, subst, ◌∙◌, arith, inl, inr, length-append, Result, Ok, Err}
 use Rattle.std.proofs.lemmas.Bool.{eqb-true, and_parts, or_cases, or_left, or_right}
 use Rattle.std.proofs.lemmas.Bool.Decides.{nat_tests}
-use Rattle.std.proofs.lemmas.List.{get_or_append_left, get_or_push, get_or-map, length-map, length_push}
+use Rattle.std.proofs.lemmas.List.{get_or_append_left, get_or_push, get_or-map, length_push}
 use Rattle.std.specs.Result.{IfOk, OnOk}
 use Rattle.value_ops.specs.declared.places.Place.{Place}
 use Rattle.value_ops.specs.declared.values.ClassId.{ClassId}
 use Rattle.value_ops.specs.declared.values.SetId.{SetId}
-use Rattle.record_classes.specs.Classes.{Classes, number_of, set_of, with_set, is_same_set, is_within}
+use Rattle.record_classes.specs.Classes.{Classes, number_of, with_set, is_same_set, is_within}
 use Rattle.record_classes.specs.Classes as ids
-use Rattle.algolw_typing.specs.ProgramView.{Numbers, numbered, nowhere_set, set_view}
+use Rattle.algolw_typing.specs.ProgramView.{numbered, nowhere_set, set_view}
 use Rattle.algolw_typing.specs.Types.{has, is_place}
 use Rattle.typing_rules.specs.ClassSets.{Rising}
 use Rattle.typing_rules.proofs.Unions.{one_list}
 use Rattle.program_numbers.specs.Makes.{Sets, Follows, AllRise, Makes, numbers_in, places_in}
 use Rattle.program_numbers.specs.declared.numbering.Numbering.{Numbering}
-use Rattle.program_numbers.proofs.Making.{follows_itself, follows_on}
+use Rattle.program_numbers.proofs.Making.{follows_itself}
 use Rattle.typing_rules.proofs.Sets.{same_place, place_itself}
 
 same_class : (c d : ClassId) → (c.0 == d.0) ≡ true → c ≡ d

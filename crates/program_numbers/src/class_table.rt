@@ -1,4 +1,4 @@
-ghost use Rattle.std.specs.Prelude.{◌≡◌, IfOk, map};
+ghost use Rattle.std.specs.Prelude.{IfOk, map};
 ghost use Rattle.algolw_typing.specs.Known.{FieldsKnow, ClassesKnow};
 ghost use Rattle.block_scopes.specs.ClassView.{class_view, field_view};
 ghost use Rattle.program_numbers.specs.Makes.{Makes};
@@ -18,7 +18,8 @@ impl Numbering {
         fields: &[Field],
     ) -> Result<Vec<(Name, SimpleType)>, AllocError>
         requires { FieldsKnow self.now.classes (map field_view fields.now) }
-        ensures { IfOk result (λ made. Makes self.now table.old table.new (λ ns. map (field_in ns) made.items) (map field_view fields.now)) }
+        ensures { IfOk result (λ made. Makes self.now table.old table.new (λ ns. map (field_in ns) made.items)
+            (map field_view fields.now)) }
     {
         let mut made = Vec::new(self.alloc);
         for field in fields {

@@ -1,4 +1,4 @@
-ghost use Rattle.std.specs.Prelude.{◌≡◌, IfOk, map};
+ghost use Rattle.std.specs.Prelude.{IfOk, map};
 ghost use Rattle.algolw_typing.specs.Known.{KnowsFormals, KnowsGroups};
 ghost use Rattle.algolw_typing.specs.ProgramView as program;
 ghost use Rattle.typed_drafts.specs.DraftView.{formal_view, class_view};
@@ -23,10 +23,11 @@ impl Numbering {
         formal: &DraftFormal,
     ) -> Result<TypedFormal, AllocError>
         requires { FormalNumbered self.now (formal_view formal.now) }
-        ensures { IfOk result (λ made. Makes self.now table.old table.new (λ ns. program.formal_view ns made) (formal_view formal.now)) }
+        ensures { IfOk result (λ made. Makes self.now table.old table.new (λ ns. program.formal_view ns made)
+            (formal_view formal.now)) }
     {
         let spec = self.perhaps_type(table, formal.spec)?;
-        let names = self.targets(&formal.names)?;
+        let names = self.targets(formal.names)?;
         Ok(TypedFormal {
             spec,
             mode: formal.mode,
@@ -42,7 +43,8 @@ impl Numbering {
         formals: &[DraftFormal],
     ) -> Result<Vec<TypedFormal>, AllocError>
         requires { KnowsFormals self.now.names self.now.classes (map formal_view formals.now) }
-        ensures { IfOk result (λ made. Makes self.now table.old table.new (λ ns. map (program.formal_view ns) made.items) (map formal_view formals.now)) }
+        ensures { IfOk result (λ made. Makes self.now table.old table.new
+            (λ ns. map (program.formal_view ns) made.items) (map formal_view formals.now)) }
     {
         let mut made = Vec::new(self.alloc);
         for formal in formals {
@@ -59,10 +61,11 @@ impl Numbering {
         group: &(ValueType, Places),
     ) -> Result<(SimpleType, Targets), AllocError>
         requires { GroupNumbered self.now (group_view group.now) }
-        ensures { IfOk result (λ made. Makes self.now table.old table.new (λ ns. group_in ns made) (group_view group.now)) }
+        ensures { IfOk result (λ made. Makes self.now table.old table.new (λ ns. group_in ns made)
+            (group_view group.now)) }
     {
         let of = self.simple_type(table, group.0)?;
-        let names = self.targets(&group.1)?;
+        let names = self.targets(group.1)?;
         Ok((of, names))
     }
 
@@ -73,7 +76,8 @@ impl Numbering {
         groups: &[(ValueType, Places)],
     ) -> Result<Vec<(SimpleType, Targets)>, AllocError>
         requires { KnowsGroups self.now.names self.now.classes (map group_view groups.now) }
-        ensures { IfOk result (λ made. Makes self.now table.old table.new (λ ns. map (group_in ns) made.items) (map group_view groups.now)) }
+        ensures { IfOk result (λ made. Makes self.now table.old table.new (λ ns. map (group_in ns) made.items)
+            (map group_view groups.now)) }
     {
         let mut made = Vec::new(self.alloc);
         for group in groups {
@@ -90,9 +94,10 @@ impl Numbering {
         class: &DraftClass,
     ) -> Result<TypedClass, AllocError>
         requires { DeclNumbered self.now (class_view class.now) }
-        ensures { IfOk result (λ made. Makes self.now table.old table.new (λ ns. program.class_view ns made) (class_view class.now)) }
+        ensures { IfOk result (λ made. Makes self.now table.old table.new (λ ns. program.class_view ns made)
+            (class_view class.now)) }
     {
-        let groups = self.groups(table, &class.groups)?;
+        let groups = self.groups(table, class.groups)?;
         let name = (self.names.number(class.name), class.name);
         Ok(TypedClass { name, groups })
     }

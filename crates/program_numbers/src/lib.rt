@@ -7,7 +7,5 @@ mod nodes;
 mod numbering;
 mod place_numbers;
 mod programs;
-#[cfg(test)]
-mod tests;
 
 pub use programs::number_program;

@@ -1,4 +1,4 @@
-ghost use Rattle.std.specs.Prelude.{◌≡◌, IfOk, map};
+ghost use Rattle.std.specs.Prelude.{IfOk, map};
 ghost use Rattle.algolw_typing.specs.ProgramView as program;
 ghost use Rattle.algolw_typing.specs.Typed as typed;
 ghost use Rattle.typed_drafts.specs.DraftView.{draft_view, kind_view, actual_view, decl_view, procedure_view};
@@ -27,7 +27,8 @@ impl Numbering {
     #[cycle(nodes)]
     pub fn node(&self, table: &mut ClassTable, draft: &Draft) -> Result<Node, AllocError>
         requires { NodeNumbered self.now (draft_view draft.now) }
-        ensures { IfOk result (λ made. Makes self.now table.old table.new (λ ns. program.node_view ns made) (draft_view draft.now)) }
+        ensures { IfOk result (λ made. Makes self.now table.old table.new (λ ns. program.node_view ns made)
+            (draft_view draft.now)) }
     {
         let kind = self.kind(table, &draft.kind)?;
         let gives = self.gives(table, draft.gives)?;
@@ -45,7 +46,8 @@ impl Numbering {
     #[cycle(nodes)]
     fn kind(&self, table: &mut ClassTable, kind: &DraftKind) -> Result<NodeKind, AllocError>
         requires { KindNumbered self.now (kind_view kind.now) }
-        ensures { IfOk result (λ made. Makes self.now table.old table.new (λ ns. program.kind_view ns made) (kind_view kind.now)) }
+        ensures { IfOk result (λ made. Makes self.now table.old table.new (λ ns. program.kind_view ns made)
+            (kind_view kind.now)) }
     {
         match kind {
             DraftKind::Empty => Ok(NodeKind::Empty),
@@ -53,7 +55,7 @@ impl Numbering {
             DraftKind::Number(number) => Ok(NodeKind::Number(*number)),
             DraftKind::Truth(truth) => Ok(NodeKind::Truth(*truth)),
             DraftKind::BitsLit(bits) => Ok(NodeKind::BitsLit(*bits)),
-            DraftKind::Quoted(text) => Ok(NodeKind::Quoted(*text)),
+            DraftKind::Quoted(text) => Ok(NodeKind::Quoted(**text)),
             DraftKind::Goto(label) => Ok(NodeKind::Goto(self.names.number(*label))),
             DraftKind::Named(name, lists) => self.named(table, *name, lists),
             DraftKind::Negated(operand) => Ok(NodeKind::Negated(self.boxed(table, operand)?)),
@@ -66,12 +68,12 @@ impl Numbering {
             DraftKind::IsClass(operand, class, at) => self.is_class(table, operand, *class, *at),
             DraftKind::Assign(left, right) => self.assign(table, left, right),
             DraftKind::IfThen(condition, then, otherwise) => {
-                self.conditional(table, condition, then, otherwise)
+                self.conditional(table, condition, then, *otherwise)
             }
             DraftKind::CaseValue(subject, values) => self.case_value(table, subject, values),
             DraftKind::CaseDo(subject, parts) => self.case_do(table, subject, parts),
             DraftKind::ForStep(control, start, step, limit, body) => {
-                self.stepped(table, *control, start, step, limit, body)
+                self.stepped(table, *control, start, *step, limit, body)
             }
             DraftKind::ForList(control, values, body) => {
                 self.listed(table, *control, values, body)
@@ -86,7 +88,8 @@ impl Numbering {
     #[cycle(nodes)]
     fn boxed(&self, table: &mut ClassTable, draft: &Draft) -> Result<Box<Node>, AllocError>
         requires { NodeNumbered self.now (draft_view draft.now) }
-        ensures { IfOk result (λ made. Makes self.now table.old table.new (λ ns. program.node_view ns made.value) (draft_view draft.now)) }
+        ensures { IfOk result (λ made. Makes self.now table.old table.new (λ ns. program.node_view ns made.value)
+            (draft_view draft.now)) }
     {
         let node = self.node(table, draft)?;
         let boxed = Box::new(self.alloc, node)?;
@@ -103,7 +106,8 @@ impl Numbering {
         right: &Draft,
     ) -> Result<NodeKind, AllocError>
         requires { KindNumbered self.now (typed.Relation op (draft_view left.now) (draft_view right.now)) }
-        ensures { IfOk result (λ made. Makes self.now table.old table.new (λ ns. program.kind_view ns made) (typed.Relation op (draft_view left.now) (draft_view right.now))) }
+        ensures { IfOk result (λ made. Makes self.now table.old table.new (λ ns. program.kind_view ns made)
+            (typed.Relation op (draft_view left.now) (draft_view right.now))) }
     {
         let left = self.boxed(table, left)?;
         let right = self.boxed(table, right)?;
@@ -119,7 +123,8 @@ impl Numbering {
         right: &Draft,
     ) -> Result<NodeKind, AllocError>
         requires { KindNumbered self.now (typed.Assign (draft_view left.now) (draft_view right.now)) }
-        ensures { IfOk result (λ made. Makes self.now table.old table.new (λ ns. program.kind_view ns made) (typed.Assign (draft_view left.now) (draft_view right.now))) }
+        ensures { IfOk result (λ made. Makes self.now table.old table.new (λ ns. program.kind_view ns made)
+            (typed.Assign (draft_view left.now) (draft_view right.now))) }
     {
         let left = self.boxed(table, left)?;
         let right = self.boxed(table, right)?;
@@ -135,7 +140,8 @@ impl Numbering {
         body: &Draft,
     ) -> Result<NodeKind, AllocError>
         requires { KindNumbered self.now (typed.WhileDo (draft_view condition.now) (draft_view body.now)) }
-        ensures { IfOk result (λ made. Makes self.now table.old table.new (λ ns. program.kind_view ns made) (typed.WhileDo (draft_view condition.now) (draft_view body.now))) }
+        ensures { IfOk result (λ made. Makes self.now table.old table.new (λ ns. program.kind_view ns made)
+            (typed.WhileDo (draft_view condition.now) (draft_view body.now))) }
     {
         let condition = self.boxed(table, condition)?;
         let body = self.boxed(table, body)?;
@@ -151,7 +157,8 @@ impl Numbering {
         lists: &[DraftList],
     ) -> Result<NodeKind, AllocError>
         requires { KindNumbered self.now (typed.Named name (lists_onto (map list_view lists.now) typed.no_lists)) }
-        ensures { IfOk result (λ made. Makes self.now table.old table.new (λ ns. program.kind_view ns made) (typed.Named name (lists_onto (map list_view lists.now) typed.no_lists))) }
+        ensures { IfOk result (λ made. Makes self.now table.old table.new (λ ns. program.kind_view ns made)
+            (typed.Named name (lists_onto (map list_view lists.now) typed.no_lists))) }
     {
         let lists = self.lists(table, lists)?;
         Ok(NodeKind::Named(self.names.number(name), lists))
@@ -165,8 +172,10 @@ impl Numbering {
         first: &Draft,
         links: &[DraftLink],
     ) -> Result<NodeKind, AllocError>
-        requires { KindNumbered self.now (typed.Chain (draft_view first.now) (links_onto (map link_view links.now) typed.no_links)) }
-        ensures { IfOk result (λ made. Makes self.now table.old table.new (λ ns. program.kind_view ns made) (typed.Chain (draft_view first.now) (links_onto (map link_view links.now) typed.no_links))) }
+        requires { KindNumbered self.now (typed.Chain (draft_view first.now)
+            (links_onto (map link_view links.now) typed.no_links)) }
+        ensures { IfOk result (λ made. Makes self.now table.old table.new (λ ns. program.kind_view ns made)
+            (typed.Chain (draft_view first.now) (links_onto (map link_view links.now) typed.no_links))) }
     {
         let first = self.boxed(table, first)?;
         let links = self.links(table, links)?;
@@ -183,7 +192,8 @@ impl Numbering {
         at: Place,
     ) -> Result<NodeKind, AllocError>
         requires { KindNumbered self.now (typed.IsClass (draft_view operand.now) class at) }
-        ensures { IfOk result (λ made. Makes self.now table.old table.new (λ ns. program.kind_view ns made) (typed.IsClass (draft_view operand.now) class at)) }
+        ensures { IfOk result (λ made. Makes self.now table.old table.new (λ ns. program.kind_view ns made)
+            (typed.IsClass (draft_view operand.now) class at)) }
     {
         let operand = self.boxed(table, operand)?;
         Ok(NodeKind::IsClass(operand, self.names.number(class), at))
@@ -196,10 +206,12 @@ impl Numbering {
         table: &mut ClassTable,
         condition: &Draft,
         then: &Draft,
-        otherwise: &Option<Box<Draft>>,
+        otherwise: Option<&Draft>,
     ) -> Result<NodeKind, AllocError>
-        requires { KindNumbered self.now (typed.IfThen (draft_view condition.now) (draft_view then.now) (perhaps_of otherwise.now)) }
-        ensures { IfOk result (λ made. Makes self.now table.old table.new (λ ns. program.kind_view ns made) (typed.IfThen (draft_view condition.now) (draft_view then.now) (perhaps_of otherwise.now))) }
+        requires { KindNumbered self.now (typed.IfThen (draft_view condition.now) (draft_view then.now)
+            (perhaps_of otherwise)) }
+        ensures { IfOk result (λ made. Makes self.now table.old table.new (λ ns. program.kind_view ns made)
+            (typed.IfThen (draft_view condition.now) (draft_view then.now) (perhaps_of otherwise.entry))) }
     {
         let condition = self.boxed(table, condition)?;
         let then = self.boxed(table, then)?;
@@ -215,8 +227,10 @@ impl Numbering {
         subject: &Draft,
         values: &[Draft],
     ) -> Result<NodeKind, AllocError>
-        requires { KindNumbered self.now (typed.CaseValue (draft_view subject.now) (nodes_onto (map draft_view values.now) typed.no_nodes)) }
-        ensures { IfOk result (λ made. Makes self.now table.old table.new (λ ns. program.kind_view ns made) (typed.CaseValue (draft_view subject.now) (nodes_onto (map draft_view values.now) typed.no_nodes))) }
+        requires { KindNumbered self.now (typed.CaseValue (draft_view subject.now)
+            (nodes_onto (map draft_view values.now) typed.no_nodes)) }
+        ensures { IfOk result (λ made. Makes self.now table.old table.new (λ ns. program.kind_view ns made)
+            (typed.CaseValue (draft_view subject.now) (nodes_onto (map draft_view values.now) typed.no_nodes))) }
     {
         let subject = self.boxed(table, subject)?;
         let values = self.nodes(table, values)?;
@@ -231,8 +245,10 @@ impl Numbering {
         subject: &Draft,
         parts: &[Draft],
     ) -> Result<NodeKind, AllocError>
-        requires { KindNumbered self.now (typed.CaseDo (draft_view subject.now) (nodes_onto (map draft_view parts.now) typed.no_nodes)) }
-        ensures { IfOk result (λ made. Makes self.now table.old table.new (λ ns. program.kind_view ns made) (typed.CaseDo (draft_view subject.now) (nodes_onto (map draft_view parts.now) typed.no_nodes))) }
+        requires { KindNumbered self.now (typed.CaseDo (draft_view subject.now)
+            (nodes_onto (map draft_view parts.now) typed.no_nodes)) }
+        ensures { IfOk result (λ made. Makes self.now table.old table.new (λ ns. program.kind_view ns made)
+            (typed.CaseDo (draft_view subject.now) (nodes_onto (map draft_view parts.now) typed.no_nodes))) }
     {
         let subject = self.boxed(table, subject)?;
         let parts = self.nodes(table, parts)?;
@@ -246,12 +262,15 @@ impl Numbering {
         table: &mut ClassTable,
         control: Place,
         start: &Draft,
-        step: &Option<Box<Draft>>,
+        step: Option<&Draft>,
         limit: &Draft,
         body: &Draft,
     ) -> Result<NodeKind, AllocError>
-        requires { KindNumbered self.now (typed.ForStep control (draft_view start.now) (perhaps_of step.now) (draft_view limit.now) (draft_view body.now)) }
-        ensures { IfOk result (λ made. Makes self.now table.old table.new (λ ns. program.kind_view ns made) (typed.ForStep control (draft_view start.now) (perhaps_of step.now) (draft_view limit.now) (draft_view body.now))) }
+        requires { KindNumbered self.now (typed.ForStep control (draft_view start.now) (perhaps_of step)
+            (draft_view limit.now) (draft_view body.now)) }
+        ensures { IfOk result (λ made. Makes self.now table.old table.new (λ ns. program.kind_view ns made)
+            (typed.ForStep control (draft_view start.now) (perhaps_of step.entry) (draft_view limit.now)
+            (draft_view body.now))) }
     {
         let start = self.boxed(table, start)?;
         let step = self.perhaps(table, step)?;
@@ -270,8 +289,10 @@ impl Numbering {
         values: &[Draft],
         body: &Draft,
     ) -> Result<NodeKind, AllocError>
-        requires { KindNumbered self.now (typed.ForList control (nodes_onto (map draft_view values.now) typed.no_nodes) (draft_view body.now)) }
-        ensures { IfOk result (λ made. Makes self.now table.old table.new (λ ns. program.kind_view ns made) (typed.ForList control (nodes_onto (map draft_view values.now) typed.no_nodes) (draft_view body.now))) }
+        requires { KindNumbered self.now (typed.ForList control
+            (nodes_onto (map draft_view values.now) typed.no_nodes) (draft_view body.now)) }
+        ensures { IfOk result (λ made. Makes self.now table.old table.new (λ ns. program.kind_view ns made)
+            (typed.ForList control (nodes_onto (map draft_view values.now) typed.no_nodes) (draft_view body.now))) }
     {
         let values = self.nodes(table, values)?;
         let body = self.boxed(table, body)?;
@@ -286,8 +307,11 @@ impl Numbering {
         decls: &[DraftDecl],
         items: &[DraftItem],
     ) -> Result<NodeKind, AllocError>
-        requires { KindNumbered self.now (typed.Block (decls_onto (map decl_view decls.now) typed.no_decls) (items_onto (map item_view items.now) typed.no_items)) }
-        ensures { IfOk result (λ made. Makes self.now table.old table.new (λ ns. program.kind_view ns made) (typed.Block (decls_onto (map decl_view decls.now) typed.no_decls) (items_onto (map item_view items.now) typed.no_items))) }
+        requires { KindNumbered self.now (typed.Block (decls_onto (map decl_view decls.now) typed.no_decls)
+            (items_onto (map item_view items.now) typed.no_items)) }
+        ensures { IfOk result (λ made. Makes self.now table.old table.new (λ ns. program.kind_view ns made)
+            (typed.Block (decls_onto (map decl_view decls.now) typed.no_decls)
+            (items_onto (map item_view items.now) typed.no_items))) }
     {
         let decls = self.decls(table, decls)?;
         let items = self.items(table, items)?;
@@ -299,10 +323,11 @@ impl Numbering {
     fn perhaps(
         &self,
         table: &mut ClassTable,
-        draft: &Option<Box<Draft>>,
+        draft: Option<&Draft>,
     ) -> Result<Option<Box<Node>>, AllocError>
-        requires { PerhapsNumbered self.now (perhaps_of draft.now) }
-        ensures { IfOk result (λ made. Makes self.now table.old table.new (λ ns. perhaps_in ns made) (perhaps_of draft.now)) }
+        requires { PerhapsNumbered self.now (perhaps_of draft) }
+        ensures { IfOk result (λ made. Makes self.now table.old table.new (λ ns. perhaps_in ns made)
+            (perhaps_of draft.entry)) }
     {
         match draft {
             Some(draft) => Ok(Some(self.boxed(table, draft)?)),
@@ -314,7 +339,8 @@ impl Numbering {
     #[cycle(nodes)]
     fn nodes(&self, table: &mut ClassTable, drafts: &[Draft]) -> Result<Vec<Node>, AllocError>
         requires { NodesNumbered self.now (nodes_onto (map draft_view drafts.now) typed.no_nodes) }
-        ensures { IfOk result (λ made. Makes self.now table.old table.new (λ ns. map (program.node_view ns) made.items) (map draft_view drafts.now)) }
+        ensures { IfOk result (λ made. Makes self.now table.old table.new
+            (λ ns. map (program.node_view ns) made.items) (map draft_view drafts.now)) }
     {
         let mut made = Vec::new(self.alloc);
         for draft in drafts {
@@ -332,7 +358,8 @@ impl Numbering {
         links: &[DraftLink],
     ) -> Result<Vec<TypedLink>, AllocError>
         requires { LinksNumbered self.now (links_onto (map link_view links.now) typed.no_links) }
-        ensures { IfOk result (λ made. Makes self.now table.old table.new (λ ns. map (link_in ns) made.items) (map link_view links.now)) }
+        ensures { IfOk result (λ made. Makes self.now table.old table.new (λ ns. map (link_in ns) made.items)
+            (map link_view links.now)) }
     {
         let mut made = Vec::new(self.alloc);
         for link in links {
@@ -354,7 +381,8 @@ impl Numbering {
         lists: &[DraftList],
     ) -> Result<Vec<TypedList>, AllocError>
         requires { ListsNumbered self.now (lists_onto (map list_view lists.now) typed.no_lists) }
-        ensures { IfOk result (λ made. Makes self.now table.old table.new (λ ns. map (list_in ns) made.items) (map list_view lists.now)) }
+        ensures { IfOk result (λ made. Makes self.now table.old table.new (λ ns. map (list_in ns) made.items)
+            (map list_view lists.now)) }
     {
         let mut made = Vec::new(self.alloc);
         for list in lists {
@@ -371,7 +399,8 @@ impl Numbering {
     #[cycle(nodes)]
     fn list(&self, table: &mut ClassTable, list: &DraftList) -> Result<TypedListKind, AllocError>
         requires { ListingNumbered self.now (list_view list.now) }
-        ensures { IfOk result (λ made. Makes self.now table.old table.new (λ ns. program.listing_view ns list.now.place made) (list_view list.now)) }
+        ensures { IfOk result (λ made. Makes self.now table.old table.new
+            (λ ns. program.listing_view ns list.now.place made) (list_view list.now)) }
     {
         match &list.kind {
             DraftListKind::Actuals(actuals) => {
@@ -391,7 +420,8 @@ impl Numbering {
         actuals: &[DraftActual],
     ) -> Result<Vec<TypedActual>, AllocError>
         requires { ActualsNumbered self.now (actuals_onto (map actual_view actuals.now) typed.no_actuals) }
-        ensures { IfOk result (λ made. Makes self.now table.old table.new (λ ns. map (program.actual_view ns) made.items) (map actual_view actuals.now)) }
+        ensures { IfOk result (λ made. Makes self.now table.old table.new
+            (λ ns. map (program.actual_view ns) made.items) (map actual_view actuals.now)) }
     {
         let mut made = Vec::new(self.alloc);
         for actual in actuals {
@@ -409,7 +439,8 @@ impl Numbering {
         actual: &DraftActual,
     ) -> Result<TypedActual, AllocError>
         requires { ActualNumbered self.now (actual_view actual.now) }
-        ensures { IfOk result (λ made. Makes self.now table.old table.new (λ ns. program.actual_view ns made) (actual_view actual.now)) }
+        ensures { IfOk result (λ made. Makes self.now table.old table.new (λ ns. program.actual_view ns made)
+            (actual_view actual.now)) }
     {
         match actual {
             DraftActual::Star(place) => Ok(TypedActual::Star(*place)),
@@ -425,11 +456,12 @@ impl Numbering {
         items: &[DraftItem],
     ) -> Result<Vec<TypedItem>, AllocError>
         requires { ItemsNumbered self.now (items_onto (map item_view items.now) typed.no_items) }
-        ensures { IfOk result (λ made. Makes self.now table.old table.new (λ ns. map (item_in ns) made.items) (map item_view items.now)) }
+        ensures { IfOk result (λ made. Makes self.now table.old table.new (λ ns. map (item_in ns) made.items)
+            (map item_view items.now)) }
     {
         let mut made = Vec::new(self.alloc);
         for item in items {
-            let labels = self.targets(&item.labels)?;
+            let labels = self.targets(item.labels)?;
             let phrase = self.node(table, &item.phrase)?;
             made.push(TypedItem { labels, phrase })?;
         }
@@ -444,7 +476,8 @@ impl Numbering {
         bounds: &[DraftBound],
     ) -> Result<Vec<TypedBound>, AllocError>
         requires { BoundsNumbered self.now (bounds_onto (map bound_view bounds.now) typed.no_bounds) }
-        ensures { IfOk result (λ made. Makes self.now table.old table.new (λ ns. map (bound_in ns) made.items) (map bound_view bounds.now)) }
+        ensures { IfOk result (λ made. Makes self.now table.old table.new (λ ns. map (bound_in ns) made.items)
+            (map bound_view bounds.now)) }
     {
         let mut made = Vec::new(self.alloc);
         for bound in bounds {
@@ -467,7 +500,8 @@ impl Numbering {
         decls: &[DraftDecl],
     ) -> Result<Vec<TypedDecl>, AllocError>
         requires { DeclsNumbered self.now (decls_onto (map decl_view decls.now) typed.no_decls) }
-        ensures { IfOk result (λ made. Makes self.now table.old table.new (λ ns. map (program.decl_view ns) made.items) (map decl_view decls.now)) }
+        ensures { IfOk result (λ made. Makes self.now table.old table.new
+            (λ ns. map (program.decl_view ns) made.items) (map decl_view decls.now)) }
     {
         let mut made = Vec::new(self.alloc);
         for decl in decls {
@@ -481,7 +515,8 @@ impl Numbering {
     #[cycle(nodes)]
     fn decl(&self, table: &mut ClassTable, decl: &DraftDecl) -> Result<TypedDecl, AllocError>
         requires { DeclNumbered self.now (decl_view decl.now) }
-        ensures { IfOk result (λ made. Makes self.now table.old table.new (λ ns. program.decl_view ns made) (decl_view decl.now)) }
+        ensures { IfOk result (λ made. Makes self.now table.old table.new (λ ns. program.decl_view ns made)
+            (decl_view decl.now)) }
     {
         match decl {
             DraftDecl::Simple(of, names) => {
@@ -508,11 +543,12 @@ impl Numbering {
         procedure: &DraftProc,
     ) -> Result<TypedProc, AllocError>
         requires { DeclNumbered self.now (procedure_view procedure.now) }
-        ensures { IfOk result (λ made. Makes self.now table.old table.new (λ ns. program.procedure_view ns made) (procedure_view procedure.now)) }
+        ensures { IfOk result (λ made. Makes self.now table.old table.new (λ ns. program.procedure_view ns made)
+            (procedure_view procedure.now)) }
     {
         let result = self.perhaps_type(table, procedure.result)?;
-        let formals = self.formals(table, &procedure.formals)?;
-        let body = self.boxed(table, &procedure.body)?;
+        let formals = self.formals(table, procedure.formals)?;
+        let body = self.boxed(table, procedure.body)?;
         let name = (self.names.number(procedure.name), procedure.name);
         Ok(TypedProc {
             place: procedure.place,

@@ -109,7 +109,8 @@ impl Numbering {
         of: ValueType,
     ) -> Result<SimpleType, AllocError>
         requires { KnowsType self.now.classes (value_type of) }
-        ensures { IfOk result (λ made. Makes self.now table.old table.new (λ ns. type_view ns made) (value_type of.entry)) }
+        ensures { IfOk result (λ made. Makes self.now table.old table.new (λ ns. type_view ns made)
+            (value_type of.entry)) }
     {
         match of {
             ValueType::Integer => Ok(SimpleType::Integer),
@@ -132,7 +133,8 @@ impl Numbering {
         of: Option<ValueType>,
     ) -> Result<Option<SimpleType>, AllocError>
         requires { KnowsResult self.now.classes (option_map value_type of) }
-        ensures { IfOk result (λ made. Makes self.now table.old table.new (λ ns. option_map (type_view ns) made) (option_map value_type of.entry)) }
+        ensures { IfOk result (λ made. Makes self.now table.old table.new (λ ns. option_map (type_view ns) made)
+            (option_map value_type of.entry)) }
     {
         match of {
             Some(of) => Ok(Some(self.simple_type(table, of)?)),
@@ -147,7 +149,8 @@ impl Numbering {
         gives: Option<PhraseType>,
     ) -> Result<Option<Gives>, AllocError>
         requires { KnowsGives self.now.classes (option_map phrase_type gives) }
-        ensures { IfOk result (λ made. Makes self.now table.old table.new (λ ns. option_map (gives_view ns) made) (option_map phrase_type gives.entry)) }
+        ensures { IfOk result (λ made. Makes self.now table.old table.new (λ ns. option_map (gives_view ns) made)
+            (option_map phrase_type gives.entry)) }
     {
         match gives {
             Some(PhraseType::Value(of)) => Ok(Some(Gives::Simple(self.simple_type(table, of)?))),

@@ -61,7 +61,8 @@ fn program_numbering(
 ) -> Result<Numbering, AllocError>
     ensures names { IfOk result (λ n. n.names ≡ map (λ info. info.place) names.now) }
     ensures classes { IfOk result (λ n. n.classes ≡ map (λ class. class.place) (map class_view classes.now)) }
-    ensures statements { IfOk result (λ n. n.statements ≡ by_place (λ place. place) (statements (draft_view draft.now))) }
+    ensures statements { IfOk result (λ n. n.statements
+        ≡ by_place (λ place. place) (statements (draft_view draft.now))) }
 {
     let names = PlaceNumbers::new(name_places(alloc, names)?)?;
     let classes = PlaceNumbers::new(class_places(alloc, classes)?)?;
@@ -81,9 +82,18 @@ pub fn number_program<'a>(
     names: Vec<NameInfo>,
     classes: &[FoundClass<'a>],
 ) -> Result<Program, AllocError>
-    requires known { Knows (map (λ info. info.place) names.items) (map (λ class. class.place) (map class_view classes.now)) (draft_view draft.now) }
-    requires fields { ClassesKnow (map (λ class. class.place) (map class_view classes.now)) (map class_view classes.now) }
-    ensures { IfOk result (λ program. HoldsProgram program (record { root = draft_view draft.now; names = names.items; classes = map class_view classes.now; statements = by_place (λ place. place) (statements (draft_view draft.now)) })) }
+    requires known { Knows (map (λ info. info.place) names.items)
+        (map (λ class. class.place) (map class_view classes.now)) (draft_view draft.now) }
+    requires fields { ClassesKnow (map (λ class. class.place) (map class_view classes.now))
+        (map class_view classes.now) }
+    ensures { IfOk result (λ program. HoldsProgram program
+        (record {
+          root = draft_view draft.now;
+          names = names.items;
+          classes = map class_view classes.now;
+          statements =
+              by_place (λ place. place) (statements (draft_view draft.now));
+        })) }
 {
     let numbering = program_numbering(alloc, draft, &names, classes)?;
     let mut table = numbering.class_table(classes)?;

@@ -34,7 +34,7 @@ pub fn check(alloc: Global, phrase: &Phrase) -> Result<Checked, AllocError>
     let arena = Bump::new(alloc);
     let found = check_program(alloc, &arena, phrase)?;
     if found.faults.is_empty() {
-        let program = good_program(alloc, &arena, phrase, &found.draft)?;
+        let program = good_program(alloc, &arena, phrase, found.draft)?;
         return Ok(Checked::Good(program));
     }
     let given = given_diagnostics(found.faults)?;

@@ -1,7 +1,5 @@
--- What a draft has in its rows, read at the vectors' items.
-use Rattle.std.proofs.Common.{◌≡◌, map, refl, ap, ◌∙◌}
-use Rattle.std.specs.declared.vec.Vec.{Vec}
-use Rattle.std.specs.declared.alloc.Global.{Global}
+-- What a draft has in its rows, read as lists.
+use Rattle.std.proofs.Common.{◌≡◌, List, map, refl, ap, ◌∙◌}
 use Rattle.algolw_typing.specs.Typed as typed
 use Rattle.typed_drafts.specs.declared.drafts.Draft.{Draft}
 use Rattle.typed_drafts.specs.declared.drafts.DraftLink.{DraftLink}
@@ -21,47 +19,47 @@ nodes_row : (n : _) (r : Row_of-Draft n) → nodes_view r ≡ nodes_onto (map dr
 nodes_row n end_of-Draft = refl
 nodes_row n (more_of-Draft p f k g s r) = ap (typed.node_and (at_view p f g s (kind_view k))) (nodes_row _ r)
 
-pub vec_nodes : (v : Vec Draft Global) → nodes_view (hidden-the_row-Draft-3 v) ≡ nodes_onto (map draft_view v.items) typed.no_nodes
-vec_nodes v = nodes_row _ (hidden-the_row-Draft-3 v) ∙ ap (λ xs. nodes_onto (map draft_view xs) typed.no_nodes) (items_hidden-the_row-Draft-3 v)
+pub slice_nodes : (v : List Draft) → nodes_view (hidden-the_row-Draft-3 v) ≡ nodes_onto (map draft_view v) typed.no_nodes
+slice_nodes v = nodes_row _ (hidden-the_row-Draft-3 v) ∙ ap (λ xs. nodes_onto (map draft_view xs) typed.no_nodes) (items_hidden-the_row-Draft-3 v)
 
 links_row : (n : _) (r : Row_of-DraftLink n) → links_view r ≡ links_onto (map link_view (items-the_row-DraftLink n r)) typed.no_links
 links_row n end_of-DraftLink = refl
 links_row n (more_of-DraftLink op q p f k g s r) = ap (typed.link_and (typed.Linked op q (at_view p f g s (kind_view k)))) (links_row _ r)
 
-pub vec_links : (v : Vec DraftLink Global) → links_view (hidden-the_row-DraftLink-2 v) ≡ links_onto (map link_view v.items) typed.no_links
-vec_links v = links_row _ (hidden-the_row-DraftLink-2 v) ∙ ap (λ xs. links_onto (map link_view xs) typed.no_links) (items_hidden-the_row-DraftLink-2 v)
+pub slice_links : (v : List DraftLink) → links_view (hidden-the_row-DraftLink-2 v) ≡ links_onto (map link_view v) typed.no_links
+slice_links v = links_row _ (hidden-the_row-DraftLink-2 v) ∙ ap (λ xs. links_onto (map link_view xs) typed.no_links) (items_hidden-the_row-DraftLink-2 v)
 
 lists_row : (n : _) (r : Row_of-DraftList n) → lists_view r ≡ lists_onto (map list_view (items-the_row-DraftList n r)) typed.no_lists
 lists_row n end_of-DraftList = refl
 lists_row n (more_of-DraftList q kind r) = ap (typed.list_and (listing_view q kind)) (lists_row _ r)
 
-pub vec_lists : (v : Vec DraftList Global) → lists_view (hidden-the_row-DraftList-1 v) ≡ lists_onto (map list_view v.items) typed.no_lists
-vec_lists v = lists_row _ (hidden-the_row-DraftList-1 v) ∙ ap (λ xs. lists_onto (map list_view xs) typed.no_lists) (items_hidden-the_row-DraftList-1 v)
+pub slice_lists : (v : List DraftList) → lists_view (hidden-the_row-DraftList-1 v) ≡ lists_onto (map list_view v) typed.no_lists
+slice_lists v = lists_row _ (hidden-the_row-DraftList-1 v) ∙ ap (λ xs. lists_onto (map list_view xs) typed.no_lists) (items_hidden-the_row-DraftList-1 v)
 
 actuals_row : (n : _) (r : Row_of-DraftActual n) → actuals_view r ≡ actuals_onto (map actual_view (items-the_row-DraftActual n r)) typed.no_actuals
 actuals_row n end_of-DraftActual = refl
 actuals_row n (more_of-DraftActual actual r) = ap (typed.actual_and (actual_view actual)) (actuals_row _ r)
 
-pub vec_actuals : (v : Vec DraftActual Global) → actuals_view (hidden-the_row-DraftActual-6 v) ≡ actuals_onto (map actual_view v.items) typed.no_actuals
-vec_actuals v = actuals_row _ (hidden-the_row-DraftActual-6 v) ∙ ap (λ xs. actuals_onto (map actual_view xs) typed.no_actuals) (items_hidden-the_row-DraftActual-6 v)
+pub slice_actuals : (v : List DraftActual) → actuals_view (hidden-the_row-DraftActual-6 v) ≡ actuals_onto (map actual_view v) typed.no_actuals
+slice_actuals v = actuals_row _ (hidden-the_row-DraftActual-6 v) ∙ ap (λ xs. actuals_onto (map actual_view xs) typed.no_actuals) (items_hidden-the_row-DraftActual-6 v)
 
 items_row : (n : _) (r : Row_of-DraftItem n) → items_view r ≡ items_onto (map item_view (items-the_row-DraftItem n r)) typed.no_items
 items_row n end_of-DraftItem = refl
-items_row n (more_of-DraftItem labels p f k g s r) = ap (typed.item_and (typed.Labelled (placed_view labels.items) (at_view p f g s (kind_view k)))) (items_row _ r)
+items_row n (more_of-DraftItem labels p f k g s r) = ap (typed.item_and (typed.Labelled (placed_view labels.now) (at_view p f g s (kind_view k)))) (items_row _ r)
 
-pub vec_items : (v : Vec DraftItem Global) → items_view (hidden-the_row-DraftItem-5 v) ≡ items_onto (map item_view v.items) typed.no_items
-vec_items v = items_row _ (hidden-the_row-DraftItem-5 v) ∙ ap (λ xs. items_onto (map item_view xs) typed.no_items) (items_hidden-the_row-DraftItem-5 v)
+pub slice_items : (v : List DraftItem) → items_view (hidden-the_row-DraftItem-5 v) ≡ items_onto (map item_view v) typed.no_items
+slice_items v = items_row _ (hidden-the_row-DraftItem-5 v) ∙ ap (λ xs. items_onto (map item_view xs) typed.no_items) (items_hidden-the_row-DraftItem-5 v)
 
 decls_row : (n : _) (r : Row_of-DraftDecl n) → decls_view r ≡ decls_onto (map decl_view (items-the_row-DraftDecl n r)) typed.no_decls
 decls_row n end_of-DraftDecl = refl
 decls_row n (more_of-DraftDecl decl r) = ap (typed.decl_and (decl_view decl)) (decls_row _ r)
 
-pub vec_decls : (v : Vec DraftDecl Global) → decls_view (hidden-the_row-DraftDecl-4 v) ≡ decls_onto (map decl_view v.items) typed.no_decls
-vec_decls v = decls_row _ (hidden-the_row-DraftDecl-4 v) ∙ ap (λ xs. decls_onto (map decl_view xs) typed.no_decls) (items_hidden-the_row-DraftDecl-4 v)
+pub slice_decls : (v : List DraftDecl) → decls_view (hidden-the_row-DraftDecl-4 v) ≡ decls_onto (map decl_view v) typed.no_decls
+slice_decls v = decls_row _ (hidden-the_row-DraftDecl-4 v) ∙ ap (λ xs. decls_onto (map decl_view xs) typed.no_decls) (items_hidden-the_row-DraftDecl-4 v)
 
 bounds_row : (n : _) (r : Row_of-DraftBound n) → bounds_view r ≡ bounds_onto (map bound_view (items-the_row-DraftBound n r)) typed.no_bounds
 bounds_row n end_of-DraftBound = refl
 bounds_row n (more_of-DraftBound q p f k g s p2 f2 k2 g2 s2 r) = ap (typed.bound_and (typed.Between q (at_view p f g s (kind_view k)) (at_view p2 f2 g2 s2 (kind_view k2)))) (bounds_row _ r)
 
-pub vec_bounds : (v : Vec DraftBound Global) → bounds_view (hidden-the_row-DraftBound-0 v) ≡ bounds_onto (map bound_view v.items) typed.no_bounds
-vec_bounds v = bounds_row _ (hidden-the_row-DraftBound-0 v) ∙ ap (λ xs. bounds_onto (map bound_view xs) typed.no_bounds) (items_hidden-the_row-DraftBound-0 v)
+pub slice_bounds : (v : List DraftBound) → bounds_view (hidden-the_row-DraftBound-0 v) ≡ bounds_onto (map bound_view v) typed.no_bounds
+slice_bounds v = bounds_row _ (hidden-the_row-DraftBound-0 v) ∙ ap (λ xs. bounds_onto (map bound_view xs) typed.no_bounds) (items_hidden-the_row-DraftBound-0 v)

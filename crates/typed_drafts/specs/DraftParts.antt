@@ -13,7 +13,7 @@ abbrev pub list_view : DraftList → typed.Listing
 list_view l = listing_view l.place l.kind
 
 abbrev pub item_view : DraftItem → typed.Item
-item_view i = typed.Labelled (placed_view i.labels.items) (draft_view i.phrase)
+item_view i = typed.Labelled (placed_view i.labels.now) (draft_view i.phrase)
 
 abbrev pub bound_view : DraftBound → typed.Bound
 bound_view b = typed.Between b.place (draft_view b.lower) (draft_view b.upper)

@@ -23,10 +23,10 @@ abbrev pub placed_view : std.List Place → std.List typed.Placed
 placed_view places = map place_view places
 
 abbrev pub formal_view : DraftFormal → typed.Formal
-formal_view f = record { type = option_map value_type f.spec; mode = f.mode; names = placed_view f.names.items; dimensions = f.dimensions }
+formal_view f = record { type = option_map value_type f.spec; mode = f.mode; names = placed_view f.names.now; dimensions = f.dimensions }
 
 abbrev pub class_view : DraftClass → typed.Decl
-class_view c = typed.Class (place_view c.name) (map (λ g. record { type = value_type g.0; names = placed_view g.1.items }) c.groups.items)
+class_view c = typed.Class (place_view c.name) (map (λ g. record { type = value_type g.0; names = placed_view g.1.now }) c.groups.now)
 
 abbrev pub at_view : Place → Place → std.Option PhraseType → std.Option Place → typed.Kind → typed.Node
 at_view place first g s k = typed.At place first (option_map phrase_type g) s k
@@ -38,24 +38,24 @@ abbrev mutual
   kind_view (Number n) = typed.Number n
   kind_view (Truth b) = typed.Truth b
   kind_view (BitsLit b) = typed.BitsLit b
-  kind_view (Quoted t) = typed.Quoted t
+  kind_view (Quoted t) = typed.Quoted t.now
   kind_view (Goto n) = typed.Goto n
-  kind_view (Named' n shape lists) = typed.Named n (lists_view lists)
+  kind_view (Named' n slice shape lists) = typed.Named n (lists_view lists)
   kind_view (Negated' q p f k g s) = typed.Negated (at_view p f g s (kind_view k))
   kind_view (Abs' q p f k g s) = typed.Abs (at_view p f g s (kind_view k))
   kind_view (Signed' minus q p f k g s) = typed.Signed minus (at_view p f g s (kind_view k))
-  kind_view (Chain' q p f k g s shape links) = typed.Chain (at_view p f g s (kind_view k)) (links_view links)
+  kind_view (Chain' q p f k g s slice shape links) = typed.Chain (at_view p f g s (kind_view k)) (links_view links)
   kind_view (Relation' op q p f k g s q2 p2 f2 k2 g2 s2) = typed.Relation op (at_view p f g s (kind_view k)) (at_view p2 f2 g2 s2 (kind_view k2))
   kind_view (IsClass' q p f k g s n at) = typed.IsClass (at_view p f g s (kind_view k)) n at
   kind_view (Assign' q p f k g s q2 p2 f2 k2 g2 s2) = typed.Assign (at_view p f g s (kind_view k)) (at_view p2 f2 g2 s2 (kind_view k2))
   kind_view (IfThen' q p f k g s q2 p2 f2 k2 g2 s2 otherwise) = typed.IfThen (at_view p f g s (kind_view k)) (at_view p2 f2 g2 s2 (kind_view k2)) (perhaps_view otherwise)
-  kind_view (CaseValue' q p f k g s shape values) = typed.CaseValue (at_view p f g s (kind_view k)) (nodes_view values)
-  kind_view (CaseDo' q p f k g s shape parts) = typed.CaseDo (at_view p f g s (kind_view k)) (nodes_view parts)
+  kind_view (CaseValue' q p f k g s slice shape values) = typed.CaseValue (at_view p f g s (kind_view k)) (nodes_view values)
+  kind_view (CaseDo' q p f k g s slice shape parts) = typed.CaseDo (at_view p f g s (kind_view k)) (nodes_view parts)
   kind_view (ForStep' n q p f k g s step q2 p2 f2 k2 g2 s2 q3 p3 f3 k3 g3 s3) = typed.ForStep n (at_view p f g s (kind_view k)) (perhaps_view step) (at_view p2 f2 g2 s2 (kind_view k2)) (at_view p3 f3 g3 s3 (kind_view k3))
-  kind_view (ForList' n shape values q p f k g s) = typed.ForList n (nodes_view values) (at_view p f g s (kind_view k))
+  kind_view (ForList' n slice shape values q p f k g s) = typed.ForList n (nodes_view values) (at_view p f g s (kind_view k))
   kind_view (WhileDo' q p f k g s q2 p2 f2 k2 g2 s2) = typed.WhileDo (at_view p f g s (kind_view k)) (at_view p2 f2 g2 s2 (kind_view k2))
   kind_view (Assert' q p f k g s) = typed.Assert (at_view p f g s (kind_view k))
-  kind_view (Block' shape decls shape2 items) = typed.Block (decls_view decls) (items_view items)
+  kind_view (Block' slice shape decls slice2 shape2 items) = typed.Block (decls_view decls) (items_view items)
 
   pub nodes_view : {m : _} → Row_of-Draft m → typed.Nodes
   nodes_view end_of-Draft = typed.no_nodes
@@ -70,7 +70,7 @@ abbrev mutual
   lists_view (more_of-DraftList q kind rest) = typed.list_and (listing_view q kind) (lists_view rest)
 
   pub listing_view : Place → DraftListKind → typed.Listing
-  listing_view at (Actuals' shape actuals) = typed.OfActuals at (actuals_view actuals)
+  listing_view at (Actuals' slice shape actuals) = typed.OfActuals at (actuals_view actuals)
   listing_view at (Part' q p f k g s n) = typed.OfPart at (at_view p f g s (kind_view k)) n
 
   pub actuals_view : {m : _} → Row_of-DraftActual m → typed.Actuals
@@ -79,7 +79,7 @@ abbrev mutual
 
   pub actual_view : DraftActual → typed.Actual
   actual_view (Star q) = typed.Star q
-  actual_view (Phrase' p f k g s) = typed.Given (at_view p f g s (kind_view k))
+  actual_view (Phrase' q p f k g s) = typed.Given (at_view p f g s (kind_view k))
 
   pub perhaps_view : Held-DraftKind-IfThen-2 → typed.Perhaps
   perhaps_view None' = typed.Missing
@@ -87,20 +87,20 @@ abbrev mutual
 
   pub items_view : {m : _} → Row_of-DraftItem m → typed.Items
   items_view end_of-DraftItem = typed.no_items
-  items_view (more_of-DraftItem labels p f k g s rest) = typed.item_and (typed.Labelled (placed_view labels.items) (at_view p f g s (kind_view k))) (items_view rest)
+  items_view (more_of-DraftItem labels p f k g s rest) = typed.item_and (typed.Labelled (placed_view labels.now) (at_view p f g s (kind_view k))) (items_view rest)
 
   pub decls_view : {m : _} → Row_of-DraftDecl m → typed.Decls
   decls_view end_of-DraftDecl = typed.no_decls
   decls_view (more_of-DraftDecl d rest) = typed.decl_and (decl_view d) (decls_view rest)
 
   pub decl_view : DraftDecl → typed.Decl
-  decl_view (Simple t targets) = typed.Simple (value_type t) (placed_view targets.items)
-  decl_view (Array' t targets shape bounds) = typed.Array (value_type t) (placed_view targets.items) (bounds_view bounds)
+  decl_view (Simple t targets) = typed.Simple (value_type t) (placed_view targets.now)
+  decl_view (Array' t targets slice shape bounds) = typed.Array (value_type t) (placed_view targets.now) (bounds_view bounds)
   decl_view (Proc procedure) = procedure_view procedure
   decl_view (Class c) = class_view c
 
   pub procedure_view : DraftProc → typed.Decl
-  procedure_view (DraftProc' place result name formals q p f k g s) = typed.Proc place (option_map value_type result) (place_view name) (map formal_view formals.items) (at_view p f g s (kind_view k))
+  procedure_view (DraftProc' place result name formals q p f k g s) = typed.Proc place (option_map value_type result) (place_view name) (map formal_view formals.now) (at_view p f g s (kind_view k))
 
   pub bounds_view : {m : _} → Row_of-DraftBound m → typed.Bounds
   bounds_view end_of-DraftBound = typed.no_bounds

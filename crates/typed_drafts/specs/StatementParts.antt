@@ -1,7 +1,6 @@
 -- The statements of parts of a typed tree.
 use Rattle.std.specs.Prelude.{List, [], Option, Some, None}
-use Rattle.std.specs.declared.boxed.Box.{Box}
-use Rattle.std.specs.declared.alloc.Global.{Global}
+use Rattle.std.specs.Borrow.{Bor}
 use Rattle.value_ops.specs.declared.places.Place.{Place}
 use Rattle.algolw_typing.specs.Typed as typed
 use Rattle.algolw_typing.specs.Programs.{statements, actuals_statements}
@@ -9,9 +8,9 @@ use Rattle.typed_drafts.specs.DraftView.{draft_view}
 use Rattle.typed_drafts.specs.declared.drafts.Draft.{Draft}
 
 -- a phrase that may be missing
-abbrev pub perhaps_of : Option (Box Draft Global) → typed.Perhaps
+abbrev pub perhaps_of : Option (Bor Draft) → typed.Perhaps
 perhaps_of None = typed.Missing
-perhaps_of (Some a) = typed.There (draft_view a.value)
+perhaps_of (Some a) = typed.There (draft_view a.now)
 
 abbrev pub listing_statements : typed.Listing → List Place
 listing_statements (typed.OfActuals q actuals) = actuals_statements actuals

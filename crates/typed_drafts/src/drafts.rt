@@ -2,12 +2,12 @@ use algolw_tree::{Mode, Op, RelOp};
 use typing_rules::{PhraseType, ValueType};
 use value_ops::{Place, Text};
 
-/// What is declared, each by the place of its declaration.
-pub type Places = Vec<Place>;
+/// What is declared, each by the place of its name in its declaration.
+pub type Places<'a> = &'a [Place];
 
-/// A phrase of a program.
+/// A phrase of a program. Drafts stand in an arena, and refer to one another there.
 #[cycle(drafts)]
-#[derive(Drop)]
+#[derive(Clone, Copy)]
 pub struct Draft<'a> {
     /// The place that its diagnostics would name.
     pub place: Place,
@@ -17,13 +17,13 @@ pub struct Draft<'a> {
     pub kind: DraftKind<'a>,
     /// What it gives: nothing where it is an actual that stands for an array or a procedure, or may.
     pub gives: Option<PhraseType<'a>>,
-    /// Its number among the statements, where it is one.
+    /// The place of its first token, where it is a statement that is counted.
     pub statement: Option<Place>,
 }
 
-/// What a phrase of a program is, with each name as its number.
+/// What a phrase of a program is, with each name as the place where it is declared.
 #[cycle(drafts)]
-#[derive(Drop)]
+#[derive(Clone, Copy)]
 pub enum DraftKind<'a> {
     /// Nothing, as between two semicolons.
     Empty,
@@ -36,46 +36,46 @@ pub enum DraftKind<'a> {
     /// Bits that are written out.
     BitsLit(u32),
     /// A string that is written out.
-    Quoted(Text),
-    /// A name, and the lists in parentheses behind it.
-    Named(Place, Vec<DraftList<'a>>),
+    Quoted(&'a Text),
+    /// A name, as the place where it is declared, and the lists in parentheses behind it.
+    Named(Place, &'a [DraftList<'a>]),
     /// `~` and its operand.
-    Negated(Box<Draft<'a>>),
+    Negated(&'a Draft<'a>),
     /// `ABS` and its operand.
-    Abs(Box<Draft<'a>>),
+    Abs(&'a Draft<'a>),
     /// A term behind a sign, which is a minus or not.
-    Signed(bool, Box<Draft<'a>>),
+    Signed(bool, &'a Draft<'a>),
     /// Operands with operators of one level between them, from left to right.
-    Chain(Box<Draft<'a>>, Vec<DraftLink<'a>>),
+    Chain(&'a Draft<'a>, &'a [DraftLink<'a>]),
     /// A comparison.
-    Relation(RelOp, Box<Draft<'a>>, Box<Draft<'a>>),
-    /// Whether a reference is to a record of the class that is named at a place.
-    IsClass(Box<Draft<'a>>, Place, Place),
+    Relation(RelOp, &'a Draft<'a>, &'a Draft<'a>),
+    /// Whether a reference is to a record of a class: the place where it is declared, and the one where it is named.
+    IsClass(&'a Draft<'a>, Place, Place),
     /// An assignment of the second to the first.
-    Assign(Box<Draft<'a>>, Box<Draft<'a>>),
+    Assign(&'a Draft<'a>, &'a Draft<'a>),
     /// `IF`, its condition, what is done where it holds, and otherwise.
-    IfThen(Box<Draft<'a>>, Box<Draft<'a>>, Option<Box<Draft<'a>>>),
+    IfThen(&'a Draft<'a>, &'a Draft<'a>, Option<&'a Draft<'a>>),
     /// `CASE` with the values to choose from.
-    CaseValue(Box<Draft<'a>>, Vec<Draft<'a>>),
+    CaseValue(&'a Draft<'a>, &'a [Draft<'a>]),
     /// `CASE` with the statements to choose from.
-    CaseDo(Box<Draft<'a>>, Vec<Draft<'a>>),
-    /// `FOR` a control name: the start, the step, the limit, and what is done.
-    ForStep(Place, Box<Draft<'a>>, Option<Box<Draft<'a>>>, Box<Draft<'a>>, Box<Draft<'a>>),
-    /// `FOR` a control name: the values, and what is done.
-    ForList(Place, Vec<Draft<'a>>, Box<Draft<'a>>),
+    CaseDo(&'a Draft<'a>, &'a [Draft<'a>]),
+    /// `FOR` a control name, as the place where it is declared: the start, the step, the limit, and what is done.
+    ForStep(Place, &'a Draft<'a>, Option<&'a Draft<'a>>, &'a Draft<'a>, &'a Draft<'a>),
+    /// `FOR` a control name, as the place where it is declared: the values, and what is done.
+    ForList(Place, &'a [Draft<'a>], &'a Draft<'a>),
     /// `WHILE`, its condition, and what is done.
-    WhileDo(Box<Draft<'a>>, Box<Draft<'a>>),
-    /// `GOTO` a label.
+    WhileDo(&'a Draft<'a>, &'a Draft<'a>),
+    /// `GOTO` a label, as the place where it is declared.
     Goto(Place),
     /// `ASSERT` a condition.
-    Assert(Box<Draft<'a>>),
+    Assert(&'a Draft<'a>),
     /// A block: its declarations and its items.
-    Block(Vec<DraftDecl<'a>>, Vec<DraftItem<'a>>),
+    Block(&'a [DraftDecl<'a>], &'a [DraftItem<'a>]),
 }
 
 /// An operator of a chain and the operand behind it.
 #[cycle(drafts)]
-#[derive(Drop)]
+#[derive(Clone, Copy)]
 pub struct DraftLink<'a> {
     /// The operator.
     pub op: Op,
@@ -87,7 +87,7 @@ pub struct DraftLink<'a> {
 
 /// A list in parentheses behind a name.
 #[cycle(drafts)]
-#[derive(Drop)]
+#[derive(Clone, Copy)]
 pub struct DraftList<'a> {
     /// The place of its opening parenthesis.
     pub place: Place,
@@ -97,42 +97,42 @@ pub struct DraftList<'a> {
 
 /// What a list behind a name is.
 #[cycle(drafts)]
-#[derive(Drop)]
+#[derive(Clone, Copy)]
 pub enum DraftListKind<'a> {
     /// Subscripts, fields or actuals.
-    Actuals(Vec<DraftActual<'a>>),
+    Actuals(&'a [DraftActual<'a>]),
     /// A part of a string: the place where it begins, and its length.
-    Part(Box<Draft<'a>>, i32),
+    Part(&'a Draft<'a>, i32),
 }
 
 /// A subscript, a field or an actual.
 #[cycle(drafts)]
-#[derive(Drop)]
+#[derive(Clone, Copy)]
 pub enum DraftActual<'a> {
     /// `*`, which stands for a whole dimension, at a place.
     Star(Place),
     /// A phrase.
-    Phrase(Draft<'a>),
+    Phrase(&'a Draft<'a>),
 }
 
 /// A phrase of a block, behind its labels.
 #[cycle(drafts)]
-#[derive(Drop)]
+#[derive(Clone, Copy)]
 pub struct DraftItem<'a> {
-    /// Its labels.
-    pub labels: Places,
+    /// Its labels, by their places.
+    pub labels: Places<'a>,
     /// The phrase.
     pub phrase: Draft<'a>,
 }
 
 /// A declaration.
 #[cycle(drafts)]
-#[derive(Drop)]
+#[derive(Clone, Copy)]
 pub enum DraftDecl<'a> {
     /// Simple variables of a type.
-    Simple(ValueType<'a>, Places),
+    Simple(ValueType<'a>, Places<'a>),
     /// Arrays of a type, with their bounds.
-    Array(ValueType<'a>, Places, Vec<DraftBound<'a>>),
+    Array(ValueType<'a>, Places<'a>, &'a [DraftBound<'a>]),
     /// A procedure.
     Proc(DraftProc<'a>),
     /// A record class.
@@ -141,7 +141,7 @@ pub enum DraftDecl<'a> {
 
 /// The bounds of a dimension.
 #[cycle(drafts)]
-#[derive(Drop)]
+#[derive(Clone, Copy)]
 pub struct DraftBound<'a> {
     /// The place of `::`.
     pub place: Place,
@@ -153,38 +153,38 @@ pub struct DraftBound<'a> {
 
 /// A procedure.
 #[cycle(drafts)]
-#[derive(Drop)]
+#[derive(Clone, Copy)]
 pub struct DraftProc<'a> {
     /// The place of `PROCEDURE`.
     pub place: Place,
     /// The type of its value, where it has one.
     pub result: Option<ValueType<'a>>,
-    /// Its number, and where its name stands.
+    /// Where its name stands.
     pub name: Place,
     /// Its formals.
-    pub formals: Vec<DraftFormal<'a>>,
+    pub formals: &'a [DraftFormal<'a>],
     /// Its body, which may be empty.
-    pub body: Box<Draft<'a>>,
+    pub body: &'a Draft<'a>,
 }
 
 /// A record class.
-#[derive(Drop)]
+#[derive(Clone, Copy)]
 pub struct DraftClass<'a> {
-    /// Its number among the names, and where its name stands.
+    /// Where its name stands.
     pub name: Place,
     /// Its fields, by groups of one type.
-    pub groups: Vec<(ValueType<'a>, Places)>,
+    pub groups: &'a [(ValueType<'a>, Places<'a>)],
 }
 
 /// Formals of a procedure that are declared together.
-#[derive(Drop)]
+#[derive(Clone, Copy)]
 pub struct DraftFormal<'a> {
     /// Their type, which procedures without a value have none of.
     pub spec: Option<ValueType<'a>>,
     /// How they are passed.
     pub mode: Mode,
-    /// What they are.
-    pub names: Places,
+    /// Where their names stand.
+    pub names: Places<'a>,
     /// How many dimensions they have: none but of arrays.
     pub dimensions: u32,
 }

@@ -3,8 +3,6 @@
 
 mod drafts;
 mod statement_places;
-#[cfg(test)]
-mod tests;
 
 pub use drafts::{
     Draft, DraftActual, DraftBound, DraftClass, DraftDecl, DraftFormal, DraftItem, DraftKind,

@@ -67,12 +67,12 @@ fn add_kind(places: &mut Vec<Place>, kind: &DraftKind) -> Result<(), AllocError>
         DraftKind::IsClass(operand, _, _) => add_draft(places, operand),
         DraftKind::Assign(left, right) => add_both(places, left, right),
         DraftKind::IfThen(condition, then, otherwise) => {
-            add_conditional(places, condition, then, otherwise)
+            add_conditional(places, condition, then, *otherwise)
         }
         DraftKind::CaseValue(subject, values) => add_selection(places, subject, values),
         DraftKind::CaseDo(subject, parts) => add_selection(places, subject, parts),
         DraftKind::ForStep(_, start, step, limit, body) => {
-            add_stepped(places, start, step, limit, body)
+            add_stepped(places, start, *step, limit, body)
         }
         DraftKind::ForList(_, values, body) => add_listed(places, values, body),
         DraftKind::WhileDo(condition, body) => add_both(places, condition, body),
@@ -84,7 +84,8 @@ fn add_kind(places: &mut Vec<Place>, kind: &DraftKind) -> Result<(), AllocError>
 /// Adds the statements of two phrases.
 #[cycle(statement_places)]
 fn add_both(places: &mut Vec<Place>, left: &Draft, right: &Draft) -> Result<(), AllocError>
-    ensures { OnOk result (places.new.items ≡ places.old.items ++ (statements (draft_view left.now) ++ statements (draft_view right.now))) }
+    ensures { OnOk result (places.new.items ≡ places.old.items
+        ++ (statements (draft_view left.now) ++ statements (draft_view right.now))) }
 {
     add_draft(places, left)?;
     add_draft(places, right)?;
@@ -94,7 +95,9 @@ fn add_both(places: &mut Vec<Place>, left: &Draft, right: &Draft) -> Result<(), 
 /// Adds the statements of a chain.
 #[cycle(statement_places)]
 fn add_chain(places: &mut Vec<Place>, first: &Draft, links: &[DraftLink]) -> Result<(), AllocError>
-    ensures { OnOk result (places.new.items ≡ places.old.items ++ (statements (draft_view first.now) ++ links_statements (links_onto (map link_view links.now) typed.no_links))) }
+    ensures { OnOk result (places.new.items ≡ places.old.items
+        ++ (statements (draft_view first.now)
+        ++ links_statements (links_onto (map link_view links.now) typed.no_links))) }
 {
     add_draft(places, first)?;
     add_links(places, links)?;
@@ -107,9 +110,11 @@ fn add_conditional(
     places: &mut Vec<Place>,
     condition: &Draft,
     then: &Draft,
-    otherwise: &Option<Box<Draft>>,
+    otherwise: Option<&Draft>,
 ) -> Result<(), AllocError>
-    ensures { OnOk result (places.new.items ≡ places.old.items ++ (statements (draft_view condition.now) ++ statements (draft_view then.now) ++ perhaps_statements (perhaps_of otherwise.now))) }
+    ensures { OnOk result (places.new.items ≡ places.old.items
+        ++ (statements (draft_view condition.now) ++ statements (draft_view then.now)
+        ++ perhaps_statements (perhaps_of otherwise.entry))) }
 {
     add_draft(places, condition)?;
     add_draft(places, then)?;
@@ -124,7 +129,9 @@ fn add_selection(
     subject: &Draft,
     parts: &[Draft],
 ) -> Result<(), AllocError>
-    ensures { OnOk result (places.new.items ≡ places.old.items ++ (statements (draft_view subject.now) ++ nodes_statements (nodes_onto (map draft_view parts.now) typed.no_nodes))) }
+    ensures { OnOk result (places.new.items ≡ places.old.items
+        ++ (statements (draft_view subject.now)
+        ++ nodes_statements (nodes_onto (map draft_view parts.now) typed.no_nodes))) }
 {
     add_draft(places, subject)?;
     add_drafts(places, parts)?;
@@ -136,11 +143,13 @@ fn add_selection(
 fn add_stepped(
     places: &mut Vec<Place>,
     start: &Draft,
-    step: &Option<Box<Draft>>,
+    step: Option<&Draft>,
     limit: &Draft,
     body: &Draft,
 ) -> Result<(), AllocError>
-    ensures { OnOk result (places.new.items ≡ places.old.items ++ (statements (draft_view start.now) ++ perhaps_statements (perhaps_of step.now) ++ statements (draft_view limit.now) ++ statements (draft_view body.now))) }
+    ensures { OnOk result (places.new.items ≡ places.old.items
+        ++ (statements (draft_view start.now) ++ perhaps_statements (perhaps_of step.entry)
+        ++ statements (draft_view limit.now) ++ statements (draft_view body.now))) }
 {
     add_draft(places, start)?;
     add_perhaps(places, step)?;
@@ -151,7 +160,9 @@ fn add_stepped(
 /// Adds the statements of a FOR with values.
 #[cycle(statement_places)]
 fn add_listed(places: &mut Vec<Place>, values: &[Draft], body: &Draft) -> Result<(), AllocError>
-    ensures { OnOk result (places.new.items ≡ places.old.items ++ (nodes_statements (nodes_onto (map draft_view values.now) typed.no_nodes) ++ statements (draft_view body.now))) }
+    ensures { OnOk result (places.new.items ≡ places.old.items
+        ++ (nodes_statements (nodes_onto (map draft_view values.now) typed.no_nodes)
+        ++ statements (draft_view body.now))) }
 {
     add_drafts(places, values)?;
     add_draft(places, body)?;
@@ -165,7 +176,9 @@ fn add_block(
     decls: &[DraftDecl],
     items: &[DraftItem],
 ) -> Result<(), AllocError>
-    ensures { OnOk result (places.new.items ≡ places.old.items ++ (decls_statements (decls_onto (map decl_view decls.now) typed.no_decls) ++ items_statements (items_onto (map item_view items.now) typed.no_items))) }
+    ensures { OnOk result (places.new.items ≡ places.old.items
+        ++ (decls_statements (decls_onto (map decl_view decls.now) typed.no_decls)
+        ++ items_statements (items_onto (map item_view items.now) typed.no_items))) }
 {
     add_decls(places, decls)?;
     add_items(places, items)?;
@@ -174,8 +187,8 @@ fn add_block(
 
 /// Adds the statements of a phrase that may be missing.
 #[cycle(statement_places)]
-fn add_perhaps(places: &mut Vec<Place>, draft: &Option<Box<Draft>>) -> Result<(), AllocError>
-    ensures { OnOk result (places.new.items ≡ places.old.items ++ perhaps_statements (perhaps_of draft.now)) }
+fn add_perhaps(places: &mut Vec<Place>, draft: Option<&Draft>) -> Result<(), AllocError>
+    ensures { OnOk result (places.new.items ≡ places.old.items ++ perhaps_statements (perhaps_of draft.entry)) }
 {
     match draft {
         Some(draft) => add_draft(places, draft),
@@ -186,7 +199,8 @@ fn add_perhaps(places: &mut Vec<Place>, draft: &Option<Box<Draft>>) -> Result<()
 /// Adds the statements of phrases.
 #[cycle(statement_places)]
 fn add_drafts(places: &mut Vec<Place>, drafts: &[Draft]) -> Result<(), AllocError>
-    ensures { OnOk result (places.new.items ≡ places.old.items ++ nodes_statements (nodes_onto (map draft_view drafts.now) typed.no_nodes)) }
+    ensures { OnOk result (places.new.items ≡ places.old.items
+        ++ nodes_statements (nodes_onto (map draft_view drafts.now) typed.no_nodes)) }
 {
     for draft in drafts {
         add_draft(places, draft)?;
@@ -197,7 +211,8 @@ fn add_drafts(places: &mut Vec<Place>, drafts: &[Draft]) -> Result<(), AllocErro
 /// Adds the statements of the operands of a chain.
 #[cycle(statement_places)]
 fn add_links(places: &mut Vec<Place>, links: &[DraftLink]) -> Result<(), AllocError>
-    ensures { OnOk result (places.new.items ≡ places.old.items ++ links_statements (links_onto (map link_view links.now) typed.no_links)) }
+    ensures { OnOk result (places.new.items ≡ places.old.items
+        ++ links_statements (links_onto (map link_view links.now) typed.no_links)) }
 {
     for link in links {
         add_draft(places, &link.right)?;
@@ -208,7 +223,8 @@ fn add_links(places: &mut Vec<Place>, links: &[DraftLink]) -> Result<(), AllocEr
 /// Adds the statements of the lists behind a name.
 #[cycle(statement_places)]
 fn add_lists(places: &mut Vec<Place>, lists: &[DraftList]) -> Result<(), AllocError>
-    ensures { OnOk result (places.new.items ≡ places.old.items ++ lists_statements (lists_onto (map list_view lists.now) typed.no_lists)) }
+    ensures { OnOk result (places.new.items ≡ places.old.items
+        ++ lists_statements (lists_onto (map list_view lists.now) typed.no_lists)) }
 {
     for list in lists {
         add_list(places, list)?;
@@ -230,7 +246,8 @@ fn add_list(places: &mut Vec<Place>, list: &DraftList) -> Result<(), AllocError>
 /// Adds the statements of actuals.
 #[cycle(statement_places)]
 fn add_actuals(places: &mut Vec<Place>, actuals: &[DraftActual]) -> Result<(), AllocError>
-    ensures { OnOk result (places.new.items ≡ places.old.items ++ actuals_statements (actuals_onto (map actual_view actuals.now) typed.no_actuals)) }
+    ensures { OnOk result (places.new.items ≡ places.old.items
+        ++ actuals_statements (actuals_onto (map actual_view actuals.now) typed.no_actuals)) }
 {
     for actual in actuals {
         add_actual(places, actual)?;
@@ -252,7 +269,8 @@ fn add_actual(places: &mut Vec<Place>, actual: &DraftActual) -> Result<(), Alloc
 /// Adds the statements of the phrases of a block.
 #[cycle(statement_places)]
 fn add_items(places: &mut Vec<Place>, items: &[DraftItem]) -> Result<(), AllocError>
-    ensures { OnOk result (places.new.items ≡ places.old.items ++ items_statements (items_onto (map item_view items.now) typed.no_items)) }
+    ensures { OnOk result (places.new.items ≡ places.old.items
+        ++ items_statements (items_onto (map item_view items.now) typed.no_items)) }
 {
     for item in items {
         add_draft(places, &item.phrase)?;
@@ -263,7 +281,8 @@ fn add_items(places: &mut Vec<Place>, items: &[DraftItem]) -> Result<(), AllocEr
 /// Adds the statements of the bounds of arrays.
 #[cycle(statement_places)]
 fn add_bounds(places: &mut Vec<Place>, bounds: &[DraftBound]) -> Result<(), AllocError>
-    ensures { OnOk result (places.new.items ≡ places.old.items ++ bounds_statements (bounds_onto (map bound_view bounds.now) typed.no_bounds)) }
+    ensures { OnOk result (places.new.items ≡ places.old.items
+        ++ bounds_statements (bounds_onto (map bound_view bounds.now) typed.no_bounds)) }
 {
     for bound in bounds {
         add_both(places, &bound.lower, &bound.upper)?;
@@ -274,7 +293,8 @@ fn add_bounds(places: &mut Vec<Place>, bounds: &[DraftBound]) -> Result<(), Allo
 /// Adds the statements of declarations.
 #[cycle(statement_places)]
 fn add_decls(places: &mut Vec<Place>, decls: &[DraftDecl]) -> Result<(), AllocError>
-    ensures { OnOk result (places.new.items ≡ places.old.items ++ decls_statements (decls_onto (map decl_view decls.now) typed.no_decls)) }
+    ensures { OnOk result (places.new.items ≡ places.old.items
+        ++ decls_statements (decls_onto (map decl_view decls.now) typed.no_decls)) }
 {
     for decl in decls {
         add_decl(places, decl)?;
@@ -290,6 +310,6 @@ fn add_decl(places: &mut Vec<Place>, decl: &DraftDecl) -> Result<(), AllocError>
     match decl {
         DraftDecl::Simple(_, _) | DraftDecl::Class(_) => Ok(()),
         DraftDecl::Array(_, _, bounds) => add_bounds(places, bounds),
-        DraftDecl::Proc(procedure) => add_draft(places, &procedure.body),
+        DraftDecl::Proc(procedure) => add_draft(places, procedure.body),
     }
 }

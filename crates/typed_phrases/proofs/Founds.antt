@@ -1,5 +1,6 @@
 -- What is found of a phrase, by an equal verdict and an equal kind.
-use Rattle.std.proofs.Common.{◌≡◌, subst}
+use Rattle.std.proofs.Common.{◌≡◌, Result, IfOk, subst}
+use Rattle.std.proofs.lemmas.Result.{IfOk-weaker}
 use Rattle.value_ops.specs.declared.places.Place.{Place}
 use Rattle.algolw_typing.specs.Typed as typed
 use Rattle.algolw_typing.specs.Typing.{counted}
@@ -7,6 +8,10 @@ use Rattle.algolw_typing.specs.Verdicts.{Verdict, type_of}
 use Rattle.typed_phrases.specs.Found.{Is}
 use Rattle.typed_phrases.specs.declared.making.Typed.{Typed}
 
-pub made_at : (t : Typed) (p f : Place) (v v' : Verdict) (k k' : typed.Kind) → v ≡ v' → k ≡ k' → Is t v (typed.At p f (type_of v) (counted f v) k) → Is t v' (typed.At p f (type_of v') (counted f v') k')
+made_at : (t : Typed) (p f : Place) (v v' : Verdict) (k k' : typed.Kind) → v ≡ v' → k ≡ k' → Is t v (typed.At p f (type_of v) (counted f v) k) → Is t v' (typed.At p f (type_of v') (counted f v') k')
 made_at t p f v v' k k' e h found =
     subst (λ (u : Verdict). Is t u (typed.At p f (type_of u) (counted f u) k')) e (subst (λ (l : typed.Kind). Is t v (typed.At p f (type_of v) (counted f v) l)) h found)
+
+-- unless memory is wanting
+pub made_as : {E : Type 0} (r : Result Typed E) (p f : Place) (v v' : Verdict) (k k' : typed.Kind) → v ≡ v' → k ≡ k' → IfOk r (λ t. Is t v (typed.At p f (type_of v) (counted f v) k)) → IfOk r (λ t. Is t v' (typed.At p f (type_of v') (counted f v') k'))
+made_as r p f v v' k k' e h found = IfOk-weaker r _ _ (λ t is. made_at t p f v v' k k' e h is) found

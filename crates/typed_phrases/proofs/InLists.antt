@@ -2,6 +2,7 @@
 use Rattle.std.proofs.Common.{◌≡◌, ℕ, ◌<◌, true, false, List, [], ◌∷◌, length, get_or, map, refl, sym, ap, ◌∙◌, arith}
 use Rattle.std.specs.declared.vec.Vec.{Vec}
 use Rattle.std.specs.declared.alloc.Global.{Global}
+use Rattle.std.specs.Borrow.{Bor}
 use Rattle.value_ops.specs.declared.places.Place.{Place}
 use Rattle.algolw_tree.specs.declared.phrases.List as list
 use Rattle.algolw_tree.specs.declared.phrases.Kind as phrase
@@ -20,7 +21,7 @@ use Rattle.typed_drafts.specs.declared.drafts.DraftList.{DraftList}
 use Rattle.typed_drafts.specs.DraftView.{kind_view}
 use Rattle.typed_drafts.specs.DraftParts.{list_view}
 use Rattle.typed_drafts.specs.Onto.{actuals_onto, lists_onto}
-use Rattle.typed_drafts.proofs.DraftRows.{vec_lists}
+use Rattle.typed_drafts.proofs.DraftRows.{slice_lists}
 use Rattle.typed_phrases.specs.Fronts.{of_actuals, part_of_actual, parts_of_listing}
 use Rattle.algolw_tree.proofs.Rows.{named_at}
 
@@ -82,11 +83,11 @@ first_parts (y ∷ xs) x h i = by_view (list_view y) (lists_onto (map list_view 
   by_view (typed.OfPart q a n) lists = refl
 
 -- the parts of the first list behind a name, where there is one
-pub no_parts : (k : DraftKind) (p : Place) (v : Vec DraftList Global) → k ≡ Named p v → length v.items ≡ 0 → parts_of_kind (kind_view k) ≡ []
-no_parts k p v e h = ap (λ z. parts_of_kind (kind_view z)) e ∙ ap parts_of_lists (vec_lists v) ∙ by_items v.items h where
+pub no_parts : (k : DraftKind) (p : Place) (v : Bor (List DraftList)) → k ≡ Named p v → length v.now ≡ 0 → parts_of_kind (kind_view k) ≡ []
+no_parts k p v e h = ap (λ z. parts_of_kind (kind_view z)) e ∙ ap parts_of_lists (slice_lists v.now) ∙ by_items v.now h where
   by_items : (xs : List DraftList) → length xs ≡ 0 → parts_of_lists (lists_onto (map list_view xs) typed.no_lists) ≡ []
   by_items [] h = refl
   by_items (x ∷ xs) h = absurd (omega (arith, h))
 
-pub named_parts : (k : DraftKind) (p : Place) (v : Vec DraftList Global) (x : DraftList) → k ≡ Named p v → 0 < length v.items → x ≡ get_or v.items 0 x → parts_of_kind (kind_view k) ≡ parts_of_listing (list_view x)
-named_parts k p v x e h i = ap (λ z. parts_of_kind (kind_view z)) e ∙ ap parts_of_lists (vec_lists v) ∙ first_parts v.items x h i
+pub named_parts : (k : DraftKind) (p : Place) (v : Bor (List DraftList)) (x : DraftList) → k ≡ Named p v → 0 < length v.now → x ≡ get_or v.now 0 x → parts_of_kind (kind_view k) ≡ parts_of_listing (list_view x)
+named_parts k p v x e h i = ap (λ z. parts_of_kind (kind_view z)) e ∙ ap parts_of_lists (slice_lists v.now) ∙ first_parts v.now x h i

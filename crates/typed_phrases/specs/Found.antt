@@ -9,11 +9,11 @@ use Rattle.typed_phrases.specs.declared.making.Typed.{Typed}
 
 -- without the faults inside it
 abbrev pub found_view : Typed → Out
-found_view t = record { inside = []; verdict = view.verdict t.verdict; node = draft_view t.draft }
+found_view t = record { inside = []; verdict = view.verdict t.verdict; node = draft_view t.draft.now }
 
 pub record Is (t : Typed) (v : Verdict) (n : Node) : Type 0 where
   pub verdict : view.verdict t.verdict ≡ v
-  pub node : draft_view t.draft ≡ n
+  pub node : draft_view t.draft.now ≡ n
 
 -- but for the faults inside it
 abbrev pub Finds : Typed → Out → Type 0

@@ -1,8 +1,7 @@
 -- What is found of phrases in a row, of links and so on, as the rules see it: without the faults inside.
 use Rattle.std.specs.Prelude.{[], List, map, Option, Some, None}
 use Rattle.std.specs.Option.{option_map}
-use Rattle.std.specs.declared.vec.Vec.{Vec}
-use Rattle.std.specs.declared.alloc.Global.{Global}
+use Rattle.std.specs.Borrow.{Bor}
 use Rattle.algolw_typing.specs.Types.{Gives}
 use Rattle.algolw_typing.specs.Typed as typed
 use Rattle.algolw_typing.specs.Typing.{PhrasesOut, LinksOut}
@@ -25,6 +24,6 @@ abbrev pub links_view : Links → LinksOut
 links_view f = record { inside = []; verdict = view.verdict f.verdict; links = links_onto (map link_view f.drafts.items) typed.no_links }
 
 -- a row of all parts, of which one may have no type
-abbrev pub by_all : Option (Vec PhraseType Global) → (List Gives → Verdict) → Verdict
+abbrev pub by_all : Option (Bor (List PhraseType)) → (List Gives → Verdict) → Verdict
 by_all None row = Silent
-by_all (Some parts) row = row (map view.phrase_type parts.items)
+by_all (Some parts) row = row (map view.phrase_type parts.now)

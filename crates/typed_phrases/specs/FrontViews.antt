@@ -24,7 +24,7 @@ front_view x (front.Complete v) = complete (view.verdict v)
 
 -- a phrase in a list, with the fault that reading it leaves
 abbrev pub given_out : Given → PartOut
-given_out g = record { inside = fault_of (view.verdict g.verdict); part = part g.part; node = draft_view g.draft }
+given_out g = record { inside = fault_of (view.verdict g.verdict); part = part g.part; node = draft_view g.draft.now }
 
 abbrev pub parts_view : Parts → PartsOut
 parts_view f = record { inside = []; parts = map part f.parts.items; actuals = actuals_onto (map actual_view f.drafts.items) typed.no_actuals }

@@ -11,8 +11,6 @@ use Rattle.typed_drafts.specs.DraftParts.{item_view}
 use Rattle.typed_drafts.specs.Onto.{decls_onto, items_onto}
 use Rattle.typed_drafts.specs.declared.drafts.DraftDecl.{DraftDecl}
 use Rattle.typed_phrases.specs.declared.items.Items.{Items}
-use Rattle.std.specs.declared.vec.Vec.{Vec}
-use Rattle.std.specs.declared.alloc.Global.{Global}
 
 abbrev pub items_view : Items → ItemsOut
 items_view f = record { inside = []; verdict = view.verdict f.verdict; items = items_onto (map item_view f.drafts.items) typed.no_items }
@@ -21,8 +19,8 @@ abbrev pub decls_view : List DraftDecl → typed.Decls
 decls_view ds = decls_onto (map decl_view ds) typed.no_decls
 
 -- declarations, without the faults in them
-abbrev pub block_decls : Vec DraftDecl Global → DeclsOut
-block_decls ds = record { inside = []; decls = decls_view ds.items }
+abbrev pub block_decls : List DraftDecl → DeclsOut
+block_decls ds = record { inside = []; decls = decls_view ds }
 
 -- the verdict of an item, which is the last or not
 abbrev pub item_end : Bool → List tree.Placed → tree.Phrase → Out → Verdict

@@ -3,3 +3,4 @@ pub mod FoundParts
 pub mod Fronts
 pub mod FrontViews
 pub mod Items
+pub mod Ranges

@@ -15,8 +15,10 @@ ghost use Rattle.declared_names.specs.KnownPaths.{path_view};
 
 use crate::making::{Typed, given};
 use algolw_tree::{Kind, List, ListKind, Phrase};
+use bumpalo::Bump;
+use bumpalo::collections::into_bump_slice;
 use declared_names::{KnownPath, meaning_of};
-use std::alloc::{AllocError, Global};
+use std::alloc::AllocError;
 use typed_drafts::{Draft, DraftActual, DraftKind, DraftList, DraftListKind};
 use typing_rules::{
     Meaning, NoType, Part, ValueType, Verdict, Wanted, phrase_part, subarray_part, subarray_row,
@@ -24,33 +26,35 @@ use typing_rules::{
 use value_ops::Place;
 
 /// A phrase in a list, as it is read there.
-#[derive(Drop)]
+#[derive(Clone, Copy)]
 pub struct Given<'a> {
     /// The verdict whose fault, if it is one, is still to be given.
     pub verdict: Verdict<'a>,
     /// What it is read as.
     pub part: Part<'a>,
     /// The phrase.
-    pub draft: Draft<'a>,
+    pub draft: &'a Draft<'a>,
 }
 
 /// What is found of the parts of a list.
 #[derive(Drop)]
 pub struct Parts<'a> {
     /// What each is read as.
-    pub parts: Vec<Part<'a>>,
+    pub parts: Vec<Part<'a>, &'a Bump>,
     /// The parts.
-    pub drafts: Vec<DraftActual<'a>>,
+    pub drafts: Vec<DraftActual<'a>, &'a Bump>,
 }
 
 /// The phrase without what it gives: it stands for an array or a procedure, or may.
-fn untyped(draft: Draft<'_>) -> Draft<'_>
-    ensures { draft_view result ≡ typed.untyped (draft_view draft.entry) }
+fn untyped<'a>(arena: &'a Bump, draft: &Draft<'a>) -> Result<&'a Draft<'a>, AllocError>
+    ensures { IfOk result (λ d. draft_view d.now ≡ typed.untyped (draft_view draft.now)) }
 {
-    let mut draft = draft;
-    draft.gives = None;
-    draft.statement = None;
-    draft
+    let draft = arena.try_alloc(Draft {
+        gives: None,
+        statement: None,
+        ..*draft
+    })?;
+    Ok(draft)
 }
 
 /// A phrase that is read as a phrase.
@@ -65,30 +69,36 @@ fn phrase_given<'a>(is_variable: bool, found: Typed<'a>) -> Given<'a>
 }
 
 /// A name alone that is read as this: as an array or a procedure it gives no fault, and has no type.
-fn read_as<'a>(part: Part<'a>, found: Typed<'a>) -> Given<'a>
-    ensures { given_out result ≡ rules.read_as (view.part part.entry) (found_view found.entry) }
+fn read_as<'a>(arena: &'a Bump, part: Part<'a>, found: Typed<'a>) -> Result<Given<'a>, AllocError>
+    ensures { IfOk result (λ g. given_out g ≡ rules.read_as (view.part part.entry) (found_view found.entry)) }
 {
     match part {
-        Part::Phrase(_, _) | Part::Typeless => Given {
+        Part::Phrase(_, _) | Part::Typeless => Ok(Given {
             verdict: found.verdict,
             part,
             draft: found.draft,
-        },
-        _ => Given {
+        }),
+        _ => Ok(Given {
             verdict: Err(NoType::Silent),
             part,
-            draft: untyped(found.draft),
-        },
+            draft: untyped(arena, found.draft)?,
+        }),
     }
 }
 
 /// A name alone.
-fn name_given<'a>(wanted: Wanted<'a>, means: Option<Meaning<'a>>, found: Typed<'a>) -> Given<'a>
-    ensures { given_out result ≡ rules.name_given (view.wanted wanted.entry) (option_map view.meaning means.entry) (found_view found.entry) }
+fn name_given<'a>(
+    arena: &'a Bump,
+    wanted: Wanted<'a>,
+    means: Option<Meaning<'a>>,
+    found: Typed<'a>,
+) -> Result<Given<'a>, AllocError>
+    ensures { IfOk result (λ g. given_out g ≡ rules.name_given (view.wanted wanted.entry)
+        (option_map view.meaning means.entry) (found_view found.entry)) }
 {
     match means {
-        None => phrase_given(false, found),
-        Some(meaning) => read_as(wanted.read_name(meaning, found.verdict), found),
+        None => Ok(phrase_given(false, found)),
+        Some(meaning) => read_as(arena, wanted.read_name(meaning, found.verdict), found),
     }
 }
 
@@ -102,64 +112,68 @@ fn part_of<'a>(actual: &DraftActual<'a>) -> Part<'a>
     }
 }
 
-/// What the parts of a list are read as, by what they give as phrases.
+/// What the parts of a list are read as, by what they give as phrases, in the arena.
 fn parts_of_list<'a>(
-    alloc: Global,
+    arena: &'a Bump,
     actuals: &[DraftActual<'a>],
-) -> Result<Vec<Part<'a>>, AllocError>
-    ensures { IfOk result (λ parts. map view.part parts.items ≡ map part_of_actual (map actual_view actuals.now)) }
+) -> Result<&'a [Part<'a>], AllocError>
+    ensures { IfOk result (λ parts. map view.part parts.now
+        ≡ map part_of_actual (map actual_view actuals.now)) }
 {
-    let mut parts = Vec::with_capacity(alloc, actuals.len())?;
+    let mut parts = Vec::with_capacity(arena, actuals.len())?;
     for actual in actuals {
         parts.push(part_of(actual))?;
     }
-    Ok(parts)
+    Ok(into_bump_slice(parts))
 }
 
 /// What the parts of a list behind a name are read as, by what they give as phrases: a substring list has none.
-#[tactic(auto, using(typed_drafts::proofs::DraftRows::vec_actuals, crate::proofs::InLists::parts_onto))]
-fn parts_of_first<'a>(alloc: Global, list: &DraftList<'a>) -> Result<Vec<Part<'a>>, AllocError>
-    ensures { IfOk result (λ parts. map view.part parts.items ≡ parts_of_listing (list_view list.now)) }
+#[tactic(auto, using(typed_drafts::proofs::DraftRows::slice_actuals, crate::proofs::InLists::parts_onto))]
+fn parts_of_first<'a>(arena: &'a Bump, list: &DraftList<'a>) -> Result<&'a [Part<'a>], AllocError>
+    ensures { IfOk result (λ parts. map view.part parts.now ≡ parts_of_listing (list_view list.now)) }
 {
     match &list.kind {
-        DraftListKind::Actuals(actuals) => parts_of_list(alloc, actuals),
-        DraftListKind::Part(_, _) => Ok(Vec::new(alloc)),
+        DraftListKind::Actuals(actuals) => parts_of_list(arena, actuals),
+        DraftListKind::Part(_, _) => Ok(&[]),
     }
 }
 
 /// What the parts of the first list behind a name are read as, by what they give as phrases.
-fn parts_of<'a>(alloc: Global, draft: &Draft<'a>) -> Result<Vec<Part<'a>>, AllocError>
-    ensures { IfOk result (λ parts. map view.part parts.items ≡ rules.parts_of_kind (kind_view draft.now.kind)) }
+fn parts_of<'a>(arena: &'a Bump, draft: &Draft<'a>) -> Result<&'a [Part<'a>], AllocError>
+    ensures { IfOk result (λ parts. map view.part parts.now
+        ≡ rules.parts_of_kind (kind_view draft.now.kind)) }
 {
     let DraftKind::Named(_, lists) = &draft.kind else {
-        return Ok(Vec::new(alloc));
+        return Ok(&[]);
     };
     match lists.first() {
-        None => Ok(Vec::new(alloc)),
-        Some(list) => parts_of_first(alloc, list),
+        None => Ok(&[]),
+        Some(list) => parts_of_first(arena, list),
     }
 }
 
 /// The name of an array of so many dimensions with a list behind it: a subarray where its parts say so.
 fn array_given<'a>(
-    alloc: Global,
+    arena: &'a Bump,
     place: Place,
     wanted: Wanted<'a>,
     element: ValueType<'a>,
     dimensions: u32,
     found: Typed<'a>,
 ) -> Result<Given<'a>, AllocError>
-    ensures { IfOk result (λ g. given_out g ≡ rules.array_given place (view.wanted wanted.entry) (types.value_type element.entry) dimensions (rules.parts_of_kind (kind_view found.entry.draft.kind)) (found_view found.entry)) }
+    ensures { IfOk result (λ g. given_out g ≡ rules.array_given place (view.wanted wanted.entry)
+        (types.value_type element.entry) dimensions
+        (rules.parts_of_kind (kind_view found.entry.draft.now.kind)) (found_view found.entry)) }
 {
-    let parts = parts_of(alloc, &found.draft)?;
-    if !wanted.is_subarray(&parts) {
+    let parts = parts_of(arena, found.draft)?;
+    if !wanted.is_subarray(parts) {
         return Ok(phrase_given(true, found));
     }
-    let verdict = subarray_row(place, dimensions, &parts);
+    let verdict = subarray_row(place, dimensions, parts);
     Ok(Given {
         verdict,
-        part: subarray_part(wanted, element, &parts, verdict),
-        draft: untyped(found.draft),
+        part: subarray_part(wanted, element, parts, verdict),
+        draft: untyped(arena, found.draft)?,
     })
 }
 
@@ -175,17 +189,18 @@ fn is_variable(means: Option<Meaning<'_>>) -> bool
 
 /// A name with a list behind it.
 fn list_given<'a>(
-    alloc: Global,
+    arena: &'a Bump,
     place: Place,
     wanted: Wanted<'a>,
     means: Option<Meaning<'a>>,
     found: Typed<'a>,
 ) -> Result<Given<'a>, AllocError>
-    ensures { IfOk result (λ g. given_out g ≡ rules.list_given place (view.wanted wanted.entry) (option_map view.meaning means.entry) (found_view found.entry)) }
+    ensures { IfOk result (λ g. given_out g ≡ rules.list_given place (view.wanted wanted.entry)
+        (option_map view.meaning means.entry) (found_view found.entry)) }
 {
     match means {
         Some(Meaning::Array(element, dimensions)) => {
-            array_given(alloc, place, wanted, element, dimensions, found)
+            array_given(arena, place, wanted, element, dimensions, found)
         }
         _ => Ok(phrase_given(is_variable(means), found)),
     }
@@ -200,43 +215,46 @@ fn is_of_actuals(list: &List) -> bool
 
 /// A phrase in a list, as what is wanted there.
 pub fn read<'a>(
-    alloc: Global,
+    arena: &'a Bump,
     path: &KnownPath<'_, 'a>,
     wanted: Wanted<'a>,
     phrase: &Phrase,
     found: Typed<'a>,
 ) -> Result<Given<'a>, AllocError>
-    ensures { IfOk result (λ g. given_out g ≡ rules.given (path_view path.now) (view.wanted wanted.entry) (tree phrase.now) (found_view found.entry)) }
+    ensures { IfOk result (λ g. given_out g ≡ rules.given (path_view path.now)
+        (view.wanted wanted.entry) (tree phrase.now) (found_view found.entry)) }
 {
     let Kind::Named(name, lists) = &phrase.kind else {
         return Ok(phrase_given(false, found));
     };
     let means = meaning_of(path.declared(name));
     match lists.first() {
-        None => Ok(name_given(wanted, means, found)),
+        None => name_given(arena, wanted, means, found),
         Some(list) if lists.len() == 1 && is_of_actuals(list) => {
-            list_given(alloc, phrase.place, wanted, means, found)
+            list_given(arena, phrase.place, wanted, means, found)
         }
         Some(_) => Ok(phrase_given(is_variable(means), found)),
     }
 }
 
 impl<'a> Parts<'a> {
-    /// No parts.
-    pub fn new(alloc: Global) -> Parts<'a>
-        ensures parts { result.parts.items ≡ [] }
-        ensures drafts { result.drafts.items ≡ [] }
+    /// No parts, with room for so many.
+    pub fn with_capacity(arena: &'a Bump, count: usize) -> Result<Parts<'a>, AllocError>
+        ensures parts { IfOk result (λ found. found.parts.items ≡ []) }
+        ensures drafts { IfOk result (λ found. found.drafts.items ≡ []) }
     {
-        Parts {
-            parts: Vec::new(alloc),
-            drafts: Vec::new(alloc),
-        }
+        Ok(Parts {
+            parts: Vec::with_capacity(arena, count)?,
+            drafts: Vec::with_capacity(arena, count)?,
+        })
     }
 
     /// Adds a `*`.
     pub fn add_star(&mut self, place: Place) -> Result<(), AllocError>
-        ensures parts { OnOk result (map view.part self.new.parts.items ≡ map view.part self.old.parts.items ++ meanings.a_star ∷ []) }
-        ensures drafts { OnOk result (map actual_view self.new.drafts.items ≡ map actual_view self.old.drafts.items ++ typed.Star place ∷ []) }
+        ensures parts { OnOk result (map view.part self.new.parts.items
+            ≡ map view.part self.old.parts.items ++ meanings.a_star ∷ []) }
+        ensures drafts { OnOk result (map actual_view self.new.drafts.items
+            ≡ map actual_view self.old.drafts.items ++ typed.Star place ∷ []) }
     {
         self.parts.push(Part::Star)?;
         self.drafts.push(DraftActual::Star(place))?;
@@ -244,9 +262,11 @@ impl<'a> Parts<'a> {
     }
 
     /// Adds a phrase.
-    pub fn add(&mut self, part: Part<'a>, draft: Draft<'a>) -> Result<(), AllocError>
-        ensures parts { OnOk result (map view.part self.new.parts.items ≡ map view.part self.old.parts.items ++ view.part part.entry ∷ []) }
-        ensures drafts { OnOk result (map actual_view self.new.drafts.items ≡ map actual_view self.old.drafts.items ++ typed.Given (draft_view draft.entry) ∷ []) }
+    pub fn add(&mut self, part: Part<'a>, draft: &'a Draft<'a>) -> Result<(), AllocError>
+        ensures parts { OnOk result (map view.part self.new.parts.items
+            ≡ map view.part self.old.parts.items ++ view.part part.entry ∷ []) }
+        ensures drafts { OnOk result (map actual_view self.new.drafts.items
+            ≡ map actual_view self.old.drafts.items ++ typed.Given (draft_view draft.now) ∷ []) }
     {
         self.parts.push(part)?;
         self.drafts.push(DraftActual::Phrase(draft))?;

@@ -2,8 +2,10 @@ ghost use Rattle.std.specs.Prelude.{◌≡◌, IfOk};
 ghost use Rattle.std.specs.Option.{option_map};
 ghost use Rattle.algolw_tree.specs.View.{tree};
 ghost use Rattle.algolw_typing.specs.Typing as rules;
+ghost use Rattle.algolw_typing.specs.Verdicts.{part, two_parts, type_of};
+ghost use Rattle.typing_rules.specs.View as view;
 ghost use Rattle.typing_rules.specs.Lefts.{left_view};
-ghost use Rattle.typing_rules.specs.MeaningView as view;
+ghost use Rattle.typing_rules.specs.MeaningView as meaning_view;
 ghost use Rattle.typed_drafts.specs.DraftView.{draft_view};
 ghost use Rattle.typed_phrases.specs.Found.{Finds, found_view};
 ghost use Rattle.typed_phrases.specs.FoundParts.{given_view};
@@ -11,14 +13,16 @@ ghost use Rattle.declared_names.specs.KnownPaths.{path_view};
 
 use crate::making::{Spot, Typed, made};
 use algolw_tree::{Kind, Phrase};
+use bumpalo::Bump;
 use declared_names::{KnownPath, meaning_of};
 use std::alloc::AllocError;
 use typed_drafts::{Draft, DraftKind};
-use typing_rules::{Left, Meaning, NoType, PhraseType, assign_row};
+use typing_rules::{Left, Meaning, NoType, PhraseType, Verdict, assign_row};
+use value_ops::Place;
 
 /// What a name that means this is at the left of an assignment.
 fn left_name(means: Option<Meaning<'_>>) -> Left
-    ensures { left_view result ≡ rules.left_name (option_map view.meaning means.entry) }
+    ensures { left_view result ≡ rules.left_name (option_map meaning_view.meaning means.entry) }
 {
     match means {
         Some(Meaning::Control) => Left::Control,
@@ -48,14 +52,35 @@ fn right_end<'a>(draft: &Draft<'a>) -> Option<PhraseType<'a>>
 }
 
 /// The right part of an assignment, which isn't counted where it is an assignment itself.
-fn uncounted(draft: Draft<'_>) -> Draft<'_>
-    ensures { draft_view result ≡ rules.uncounted (draft_view draft.entry) }
+fn uncounted<'a>(arena: &'a Bump, draft: &'a Draft<'a>) -> Result<&'a Draft<'a>, AllocError>
+    ensures { IfOk result (λ d. draft_view d.now ≡ rules.uncounted (draft_view draft.now)) }
 {
-    let mut draft = draft;
-    if let DraftKind::Assign(_, _) = &draft.kind {
-        draft.statement = None;
+    let DraftKind::Assign(_, _) = draft.kind else {
+        return Ok(draft);
+    };
+    let draft = arena.try_alloc(Draft {
+        statement: None,
+        ..*draft
+    })?;
+    Ok(draft)
+}
+
+/// The verdict of an assignment, by those of its sides and by what the value at its right end gives.
+fn assigned_verdict<'a>(
+    place: Place,
+    left: Left,
+    target: Verdict<'a>,
+    value: Verdict<'a>,
+    end: Option<PhraseType<'a>>,
+) -> Verdict<'a>
+    ensures { view.verdict result ≡ two_parts (type_of (view.verdict target.entry))
+        (type_of (view.verdict value.entry))
+        (λ l r. part (given_view end.entry) (rules.assign_row place (left_view left) l)) }
+{
+    match (target, value, end) {
+        (Ok(gives), Ok(_), Some(end)) => assign_row(place, left, gives, end),
+        _ => Err(NoType::Silent),
     }
-    draft
 }
 
 /// An assignment to what stands at its left.
@@ -65,13 +90,11 @@ pub fn assigned<'a>(
     target: Typed<'a>,
     value: Typed<'a>,
 ) -> Result<Typed<'a>, AllocError>
-    ensures { IfOk result (λ t. Finds t (rules.assign_out spot.entry.place spot.entry.first (left_view left) (found_view target.entry) (found_view value.entry))) }
+    ensures { IfOk result (λ t. Finds t (rules.assign_out spot.entry.place spot.entry.first
+        (left_view left) (found_view target.entry) (found_view value.entry))) }
 {
-    let verdict = match (target.verdict, value.verdict, right_end(&value.draft)) {
-        (Ok(gives), Ok(_), Some(end)) => assign_row(spot.place, left, gives, end),
-        _ => Err(NoType::Silent),
-    };
-    let target = Box::new(spot.alloc, target.draft)?;
-    let value = Box::new(spot.alloc, uncounted(value.draft))?;
-    Ok(made(spot, verdict, DraftKind::Assign(target, value)))
+    let end = right_end(value.draft);
+    let verdict = assigned_verdict(spot.place, left, target.verdict, value.verdict, end);
+    let value = uncounted(spot.arena, value.draft)?;
+    made(spot, verdict, DraftKind::Assign(target.draft, value))
 }

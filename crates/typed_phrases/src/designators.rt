@@ -1,4 +1,4 @@
-ghost use Rattle.std.specs.Prelude.{◌≡◌, ℕ, List, ◌∷◌, [], ◌++◌, IfOk, OnOk, map};
+ghost use Rattle.std.specs.Prelude.{◌≡◌, ℕ, Some, List, ◌∷◌, [], ◌++◌, IfOk, OnOk, map};
 ghost use Rattle.std.specs.Option.{option_map};
 ghost use Rattle.algolw_typing.specs.Typed as typed;
 ghost use Rattle.algolw_typing.specs.Typing as rules;
@@ -15,8 +15,9 @@ ghost use Rattle.declared_names.specs.KnownView.{entry_of};
 use crate::actuals::Parts;
 use crate::making::{Spot, Typed, given, made};
 use bumpalo::Bump;
+use bumpalo::collections::into_bump_slice;
 use declared_names::{Known, place_of};
-use std::alloc::{AllocError, Global};
+use std::alloc::AllocError;
 use typed_drafts::{DraftKind, DraftList, DraftListKind};
 use typing_rules::{
     NoType, Part, Reading, Verdict, all_read, alone_row, base_row, list_row, part_row,
@@ -38,14 +39,48 @@ pub struct Lists<'a> {
     /// The name with the lists so far.
     pub front: Front<'a>,
     /// The lists.
-    pub drafts: Vec<DraftList<'a>>,
+    pub drafts: Vec<DraftList<'a>, &'a Bump>,
 }
 
 /// The verdict of a name that isn't declared.
 fn undeclared<'a>(place: Place) -> Verdict<'a>
     ensures { view.verdict result ≡ verdicts.Fault 30 place }
 {
-    Err(NoType::Fault(Diagnostic { place, number: 30 }))
+    Err(NoType::Fault(Diagnostic {
+        place,
+        number: Diagnostic::NAME_NOT_DECLARED,
+    }))
+}
+
+/// The verdict of a declared name, at a place, with a list of these parts behind it.
+fn known_with_list<'a>(
+    arena: &'a Bump,
+    place: Place,
+    known: Known<'a>,
+    parts: &[Part<'a>],
+) -> Result<Verdict<'a>, AllocError>
+    ensures { IfOk result (λ v. (x : List ℕ) → view.verdict v
+        ≡ rules.use_with_list place (Some (entry_of x known.entry)) (map part parts.now)) }
+{
+    let Some(meaning) = known.means else {
+        return Ok(Err(NoType::Silent));
+    };
+    match all_read(parts) {
+        Ok(()) => list_row(arena, place, meaning, known.place, parts),
+        Err(no_type) => Ok(Err(no_type)),
+    }
+}
+
+/// The verdict of what is complete and has this verdict, with a list of these parts behind it, at a place.
+fn complete_with_list<'a>(place: Place, front: Verdict<'a>, parts: &[Part<'a>]) -> Verdict<'a>
+    ensures { view.verdict result ≡ rules.list_verdict place (view.verdict front.entry) (map part parts.now) }
+{
+    front?;
+    all_read(parts)?;
+    Err(NoType::Fault(Diagnostic {
+        place,
+        number: Diagnostic::NAME_NOT_USED_SO,
+    }))
 }
 
 impl<'a> Front<'a> {
@@ -80,28 +115,20 @@ impl<'a> Front<'a> {
         place: Place,
         parts: &[Part<'a>],
     ) -> Result<Verdict<'a>, AllocError>
-        ensures { IfOk result (λ v. (x : List ℕ) → view.verdict v ≡ fronts.front_list place (front_view x self.entry) (map part parts.now)) }
+        ensures { IfOk result (λ v. (x : List ℕ) → view.verdict v
+            ≡ fronts.front_list place (front_view x self.entry) (map part parts.now)) }
     {
         match self {
             Front::Name(name, None) => Ok(undeclared(name)),
-            Front::Name(name, Some(known)) => match known.means {
-                None => Ok(Err(NoType::Silent)),
-                Some(meaning) => match all_read(parts) {
-                    Ok(()) => list_row(arena, name, meaning, known.place, parts),
-                    Err(no_type) => Ok(Err(no_type)),
-                },
-            },
-            Front::Complete(Err(no_type)) => Ok(Err(no_type)),
-            Front::Complete(Ok(_)) => match all_read(parts) {
-                Ok(()) => Ok(Err(NoType::Fault(Diagnostic { place, number: 41 }))),
-                Err(no_type) => Ok(Err(no_type)),
-            },
+            Front::Name(name, Some(known)) => known_with_list(arena, name, known, parts),
+            Front::Complete(verdict) => Ok(complete_with_list(place, verdict, parts)),
         }
     }
 
     /// Its verdict as the base of a substring list with this start.
     fn base(self, start: Verdict<'a>) -> Verdict<'a>
-        ensures { (x : List ℕ) → view.verdict result ≡ fronts.front_base (front_view x self.entry) (verdicts.type_of (view.verdict start.entry)) }
+        ensures { (x : List ℕ) → view.verdict result
+            ≡ fronts.front_base (front_view x self.entry) (verdicts.type_of (view.verdict start.entry)) }
     {
         match self {
             Front::Name(name, None) => undeclared(name),
@@ -115,7 +142,8 @@ impl<'a> Front<'a> {
 
     /// Its verdict with a substring list behind it, at a place: with this start, and of this length.
     fn with_part(self, place: Place, start: Verdict<'a>, length: i32) -> Verdict<'a>
-        ensures { (x : List ℕ) → view.verdict result ≡ fronts.front_part place length (front_view x self.entry) (verdicts.type_of (view.verdict start.entry)) }
+        ensures { (x : List ℕ) → view.verdict result
+            ≡ fronts.front_part place length (front_view x self.entry) (verdicts.type_of (view.verdict start.entry)) }
     {
         let base = self.base(start)?;
         match start {
@@ -126,31 +154,40 @@ impl<'a> Front<'a> {
 }
 
 impl<'a> Lists<'a> {
-    /// No lists yet behind this.
-    pub fn new(alloc: Global, front: Front<'a>) -> Lists<'a>
-        ensures front { result.front ≡ front.entry }
-        ensures drafts { result.drafts.items ≡ [] }
+    /// No lists yet behind this, with room for so many.
+    pub fn with_capacity(
+        arena: &'a Bump,
+        front: Front<'a>,
+        count: usize,
+    ) -> Result<Lists<'a>, AllocError>
+        ensures front { IfOk result (λ lists. lists.front ≡ front.entry) }
+        ensures drafts { IfOk result (λ lists. lists.drafts.items ≡ []) }
     {
-        Lists {
+        Ok(Lists {
             front,
-            drafts: Vec::new(alloc),
-        }
+            drafts: Vec::with_capacity(arena, count)?,
+        })
     }
 
     /// Adds a list, at a place.
-    #[tactic(auto, using(typed_drafts::proofs::DraftRows::vec_actuals))]
+    #[tactic(auto, using(typed_drafts::proofs::DraftRows::slice_actuals))]
     pub fn add_list(
         &mut self,
         arena: &'a Bump,
         place: Place,
         found: Parts<'a>,
     ) -> Result<(), AllocError>
-        ensures front { OnOk result ((x : List ℕ) → front_view x self.new.front ≡ fronts.complete (fronts.front_list place (front_view x self.old.front) (parts_view found.entry).parts)) }
-        ensures drafts { OnOk result (map list_view self.new.drafts.items ≡ map list_view self.old.drafts.items ++ typed.OfActuals place (parts_view found.entry).actuals ∷ []) }
+        ensures front { OnOk result ((x : List ℕ) → front_view x self.new.front ≡ fronts.complete
+            (fronts.front_list place (front_view x self.old.front) (parts_view found.entry).parts)) }
+        ensures drafts { OnOk result (map list_view self.new.drafts.items
+            ≡ map list_view self.old.drafts.items
+            ++ typed.OfActuals place (parts_view found.entry).actuals ∷ []) }
     {
-        let verdict = self.front.with_list(arena, place, &found.parts)?;
+        let actuals = into_bump_slice(found.drafts);
+        let parts = into_bump_slice(found.parts);
+        let verdict = self.front.with_list(arena, place, parts)?;
         self.front = Front::Complete(verdict);
-        let kind = DraftListKind::Actuals(found.drafts);
+        let kind = DraftListKind::Actuals(actuals);
         self.drafts.push(DraftList { place, kind })?;
         Ok(())
     }
@@ -158,33 +195,36 @@ impl<'a> Lists<'a> {
     /// Adds a substring list, at a place.
     pub fn add_part(
         &mut self,
-        alloc: Global,
         place: Place,
         start: Typed<'a>,
         length: i32,
     ) -> Result<(), AllocError>
-        ensures front { OnOk result ((x : List ℕ) → front_view x self.new.front ≡ fronts.complete (fronts.front_part place length (front_view x self.old.front) (verdicts.type_of (view.verdict start.entry.verdict)))) }
-        ensures drafts { OnOk result (map list_view self.new.drafts.items ≡ map list_view self.old.drafts.items ++ typed.OfPart place (draft_view start.entry.draft) length ∷ []) }
+        ensures front { OnOk result ((x : List ℕ) → front_view x self.new.front ≡ fronts.complete
+            (fronts.front_part place length (front_view x self.old.front)
+            (verdicts.type_of (view.verdict start.entry.verdict)))) }
+        ensures drafts { OnOk result (map list_view self.new.drafts.items
+            ≡ map list_view self.old.drafts.items
+            ++ typed.OfPart place (draft_view start.entry.draft.now) length ∷ []) }
     {
         let verdict = self.front.with_part(place, start.verdict, length);
         self.front = Front::Complete(verdict);
-        let start = Box::new(alloc, start.draft)?;
-        let kind = DraftListKind::Part(start, length);
+        let kind = DraftListKind::Part(start.draft, length);
         self.drafts.push(DraftList { place, kind })?;
         Ok(())
     }
 }
 
 /// A name with the lists behind it.
-#[tactic(auto, using(typed_drafts::proofs::DraftRows::vec_lists))]
+#[tactic(auto, using(typed_drafts::proofs::DraftRows::slice_lists))]
 pub fn named<'a>(
     spot: Spot<'a>,
     target: Option<Known<'a>>,
     found: Lists<'a>,
 ) -> Result<Typed<'a>, AllocError>
-    ensures { IfOk result (λ t. (x : List ℕ) → Finds t (rules.named_out spot.entry.place spot.entry.first (option_map (entry_of x) target.entry) (lists_view x found.entry))) }
+    ensures { IfOk result (λ t. (x : List ℕ) → Finds t (rules.named_out spot.entry.place
+        spot.entry.first (option_map (entry_of x) target.entry) (lists_view x found.entry))) }
 {
+    let kind = DraftKind::Named(place_of(target), into_bump_slice(found.drafts));
     let verdict = found.front.alone(spot.arena)?;
-    let kind = DraftKind::Named(place_of(target), found.drafts);
-    Ok(made(spot, verdict, kind))
+    made(spot, verdict, kind)
 }

@@ -1,4 +1,4 @@
-ghost use Rattle.std.specs.Prelude.{◌≡◌, ◌++◌, ◌∷◌, [], OnOk, map};
+ghost use Rattle.std.specs.Prelude.{◌≡◌, ◌++◌, ◌∷◌, [], IfOk, OnOk, map};
 ghost use Rattle.algolw_typing.specs.Rows as rows;
 ghost use Rattle.algolw_typing.specs.Typed as typed;
 ghost use Rattle.algolw_typing.specs.Typing as rules;
@@ -12,8 +12,10 @@ ghost use Rattle.typed_phrases.specs.Found.{Finds};
 
 use crate::making::{Spot, Typed, made};
 use algolw_tree::Names;
+use bumpalo::Bump;
+use bumpalo::collections::into_bump_slice;
 use declared_names::places;
-use std::alloc::{AllocError, Global};
+use std::alloc::AllocError;
 use typed_drafts::{Draft, DraftDecl, DraftItem, DraftKind};
 use typing_rules::{NoType, PhraseType, Verdict, item_row};
 use value_ops::Place;
@@ -24,7 +26,7 @@ pub struct Items<'a> {
     /// The type of the last of them, unless one has none.
     pub verdict: Verdict<'a>,
     /// The items.
-    pub drafts: Vec<DraftItem<'a>>,
+    pub drafts: Vec<DraftItem<'a>, &'a Bump>,
 }
 
 /// Whether there are labels.
@@ -41,7 +43,8 @@ pub fn item_verdict<'a>(
     place: Place,
     phrase: Verdict<'a>,
 ) -> Verdict<'a>
-    ensures { view.verdict result ≡ verdicts.part (verdicts.type_of (view.verdict phrase.entry)) (rows.item_row is_last (rules.has_labels labels.now.items) place) }
+    ensures { view.verdict result ≡ verdicts.part (verdicts.type_of (view.verdict phrase.entry))
+        (rows.item_row is_last (rules.has_labels labels.now.items) place) }
 {
     match phrase {
         Ok(gives) => item_row(is_last, has_labels(labels), place, gives),
@@ -60,39 +63,49 @@ fn then_item<'a>(before: Verdict<'a>, item: Verdict<'a>) -> Verdict<'a>
 }
 
 impl<'a> Items<'a> {
-    /// No items.
-    pub fn new(alloc: Global) -> Items<'a>
-        ensures verdict { view.verdict result.verdict ≡ verdicts.Good types.Statement }
-        ensures drafts { result.drafts.items ≡ [] }
+    /// No items, with room for so many.
+    pub fn with_capacity(arena: &'a Bump, count: usize) -> Result<Items<'a>, AllocError>
+        ensures verdict { IfOk result (λ items. view.verdict items.verdict ≡ verdicts.Good types.Statement) }
+        ensures drafts { IfOk result (λ items. items.drafts.items ≡ []) }
     {
-        Items {
+        Ok(Items {
             verdict: Ok(PhraseType::Statement),
-            drafts: Vec::new(alloc),
-        }
+            drafts: Vec::with_capacity(arena, count)?,
+        })
     }
 
     /// Adds an item with this verdict.
     pub fn add(
         &mut self,
-        alloc: Global,
+        arena: &'a Bump,
         labels: &Names,
-        phrase: Draft<'a>,
+        phrase: &'a Draft<'a>,
         verdict: Verdict<'a>,
     ) -> Result<(), AllocError>
-        ensures verdict { OnOk result (view.verdict self.new.verdict ≡ rules.then_item (view.verdict self.old.verdict) (view.verdict verdict.entry)) }
-        ensures drafts { OnOk result (map item_view self.new.drafts.items ≡ map item_view self.old.drafts.items ++ typed.Labelled (rules.declare_at labels.now.items) (draft_view phrase.entry) ∷ []) }
+        ensures verdict { OnOk result (view.verdict self.new.verdict
+            ≡ rules.then_item (view.verdict self.old.verdict) (view.verdict verdict.entry)) }
+        ensures drafts { OnOk result (map item_view self.new.drafts.items
+            ≡ map item_view self.old.drafts.items
+            ++ typed.Labelled (rules.declare_at labels.now.items) (draft_view phrase.now) ∷ []) }
     {
         self.verdict = then_item(self.verdict, verdict);
-        let labels = places(alloc, labels)?;
+        let labels = places(arena, labels)?;
+        let phrase = *phrase;
         self.drafts.push(DraftItem { labels, phrase })?;
         Ok(())
     }
 }
 
 /// A block.
-#[tactic(auto, using(typed_drafts::proofs::DraftRows::vec_decls, typed_drafts::proofs::DraftRows::vec_items))]
-pub fn block<'a>(spot: Spot<'a>, decls: Vec<DraftDecl<'a>>, items: Items<'a>) -> Typed<'a>
-    ensures { Finds result (rules.block_out spot.entry.place spot.entry.first [] (block_decls decls.entry) (items_view items.entry)) }
+#[tactic(auto, using(typed_drafts::proofs::DraftRows::slice_decls, typed_drafts::proofs::DraftRows::slice_items))]
+pub fn block<'a>(
+    spot: Spot<'a>,
+    decls: &'a [DraftDecl<'a>],
+    items: Items<'a>,
+) -> Result<Typed<'a>, AllocError>
+    ensures { IfOk result (λ t. Finds t (rules.block_out spot.entry.place spot.entry.first []
+        (block_decls decls.now) (items_view items.entry))) }
 {
-    made(spot, items.verdict, DraftKind::Block(decls, items.drafts))
+    let kind = DraftKind::Block(decls, into_bump_slice(items.drafts));
+    made(spot, items.verdict, kind)
 }

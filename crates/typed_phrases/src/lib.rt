@@ -17,6 +17,6 @@ pub use making::{
     signed,
 };
 pub use statements::{
-    asserted, case_do, case_value, control_scope, for_list, for_step, for_until, if_else, if_then,
+    Range, asserted, case_do, case_value, control_scope, for_list, for_range, if_else, if_then,
     is_class, jump, while_do,
 };

@@ -2,8 +2,8 @@ ghost use Rattle.std.specs.Prelude.{◌≡◌, ◌∷◌, ◌++◌, [], IfOk, On
 ghost use Rattle.algolw_typing.specs.Typing as rules;
 ghost use Rattle.algolw_typing.specs.Typed as typed;
 ghost use Rattle.algolw_typing.specs.Types as types;
-ghost use Rattle.algolw_typing.specs.Rows.{link_row};
-ghost use Rattle.algolw_typing.specs.Verdicts.{part, type_of};
+ghost use Rattle.algolw_typing.specs.Rows.{integer_row, link_row, negated_row, relation_row};
+ghost use Rattle.algolw_typing.specs.Verdicts.{part, two_parts, type_of};
 ghost use Rattle.typing_rules.specs.View as view;
 ghost use Rattle.typed_drafts.specs.DraftParts.{link_view};
 ghost use Rattle.typed_drafts.specs.DraftView.{draft_view, kind_view};
@@ -12,6 +12,7 @@ ghost use Rattle.typed_phrases.specs.Found.{Finds, found_view};
 
 use algolw_tree::{Op, RelOp};
 use bumpalo::Bump;
+use bumpalo::collections::into_bump_slice;
 use std::alloc::{AllocError, Global};
 use typed_drafts::{Draft, DraftKind, DraftLink};
 use typing_rules::{
@@ -22,9 +23,7 @@ use value_ops::{Place, Text};
 /// Where a phrase stands, and where its draft is made.
 #[derive(Clone, Copy)]
 pub struct Spot<'a> {
-    /// Where drafts are made.
-    pub alloc: Global,
-    /// Where types are made.
+    /// Where drafts and types are made.
     pub arena: &'a Bump,
     /// The place that its diagnostics name.
     pub place: Place,
@@ -33,21 +32,21 @@ pub struct Spot<'a> {
 }
 
 /// What is found of a phrase.
-#[derive(Drop)]
+#[derive(Clone, Copy)]
 pub struct Typed<'a> {
     /// Its type, or why it has none.
     pub verdict: Verdict<'a>,
     /// The phrase.
-    pub draft: Draft<'a>,
+    pub draft: &'a Draft<'a>,
 }
 
 /// What is found of phrases in a row.
 #[derive(Drop)]
 pub struct Phrases<'a> {
     /// What each gives, where it has a type.
-    pub gives: Vec<Option<PhraseType<'a>>>,
+    pub gives: Vec<Option<PhraseType<'a>>, &'a Bump>,
     /// The phrases.
-    pub drafts: Vec<Draft<'a>>,
+    pub drafts: Vec<Draft<'a>, &'a Bump>,
 }
 
 /// What is found of the links of a chain.
@@ -56,71 +55,117 @@ pub struct Links<'a> {
     /// The type of the chain, or why it has none.
     pub verdict: Verdict<'a>,
     /// The links.
-    pub drafts: Vec<DraftLink<'a>>,
+    pub drafts: Vec<DraftLink<'a>, &'a Bump>,
 }
 
-/// A phrase with this verdict. A statement is counted at its first token.
-pub(crate) fn made<'a>(spot: Spot<'a>, verdict: Verdict<'a>, kind: DraftKind<'a>) -> Typed<'a>
-    ensures { Finds result (rules.out [] spot.entry.place spot.entry.first (view.verdict verdict.entry) (kind_view kind.entry)) }
+/// What a phrase with this verdict gives, where it has a type.
+pub(crate) fn given(verdict: Verdict<'_>) -> Option<PhraseType<'_>>
+    ensures { given_view result ≡ type_of (view.verdict verdict.entry) }
 {
-    let (gives, statement) = match verdict {
-        Ok(PhraseType::Statement) => (Some(PhraseType::Statement), Some(spot.first)),
-        Ok(gives) => (Some(gives), None),
-        Err(_) => (None, None),
-    };
-    Typed {
-        verdict,
-        draft: Draft {
-            place: spot.place,
-            first: spot.first,
-            kind,
-            gives,
-            statement,
-        },
+    verdict.ok()
+}
+
+/// Where a phrase with this verdict, whose first token is at a place, is counted: a statement is, at its first token.
+fn counted(first: Place, verdict: Verdict<'_>) -> Option<Place>
+    ensures { result ≡ rules.counted first (view.verdict verdict.entry) }
+{
+    match verdict {
+        Ok(PhraseType::Statement) => Some(first),
+        _ => None,
     }
+}
+
+/// A phrase with this verdict.
+pub(crate) fn made<'a>(
+    spot: Spot<'a>,
+    verdict: Verdict<'a>,
+    kind: DraftKind<'a>,
+) -> Result<Typed<'a>, AllocError>
+    ensures { IfOk result (λ t. Finds t (rules.out [] spot.entry.place spot.entry.first
+        (view.verdict verdict.entry) (kind_view kind.entry))) }
+{
+    let draft = spot.arena.try_alloc(Draft {
+        place: spot.place,
+        first: spot.first,
+        kind,
+        gives: given(verdict),
+        statement: counted(spot.first, verdict),
+    })?;
+    Ok(Typed { verdict, draft })
 }
 
 /// An empty phrase is a statement, but none that is counted.
-pub fn empty(spot: Spot<'_>) -> Typed<'_>
-    ensures { Finds result (rules.empty_out spot.entry.place spot.entry.first) }
+pub fn empty(spot: Spot<'_>) -> Result<Typed<'_>, AllocError>
+    ensures { IfOk result (λ t. Finds t (rules.empty_out spot.entry.place spot.entry.first)) }
 {
-    Typed {
+    let draft = spot.arena.try_alloc(Draft {
+        place: spot.place,
+        first: spot.first,
+        kind: DraftKind::Empty,
+        gives: Some(PhraseType::Statement),
+        statement: None,
+    })?;
+    Ok(Typed {
         verdict: Ok(PhraseType::Statement),
-        draft: Draft {
-            place: spot.place,
-            first: spot.first,
-            kind: DraftKind::Empty,
-            gives: Some(PhraseType::Statement),
-            statement: None,
-        },
-    }
+        draft,
+    })
 }
 
 /// A phrase without parts.
-pub fn leaf<'a>(spot: Spot<'a>, value_type: ValueType<'a>, kind: DraftKind<'a>) -> Typed<'a>
-    ensures { Finds result (rules.leaf spot.entry.place spot.entry.first (view.value_type value_type.entry) (kind_view kind.entry)) }
+pub fn leaf<'a>(
+    spot: Spot<'a>,
+    value_type: ValueType<'a>,
+    kind: DraftKind<'a>,
+) -> Result<Typed<'a>, AllocError>
+    ensures { IfOk result (λ t. Finds t (rules.leaf spot.entry.place spot.entry.first
+        (view.value_type value_type.entry) (kind_view kind.entry))) }
 {
     made(spot, Ok(PhraseType::Value(value_type)), kind)
 }
 
 /// A string that is written out.
-pub fn quoted<'a>(spot: Spot<'a>, text: Text) -> Typed<'a>
-    ensures { Finds result (rules.leaf spot.entry.place spot.entry.first (types.Str (length text)) (typed.Quoted text)) }
+pub fn quoted<'a>(spot: Spot<'a>, text: Text) -> Result<Typed<'a>, AllocError>
+    ensures { IfOk result (λ t. Finds t (rules.leaf spot.entry.place spot.entry.first
+        (types.Str (length text)) (typed.Quoted text))) }
 {
     let length = text.len() as u32;
+    let text = spot.arena.try_alloc(text)?;
     leaf(spot, ValueType::Str(length), DraftKind::Quoted(text))
+}
+
+/// The verdict of a phrase behind `~`, by that of the phrase.
+fn negated_verdict<'a>(place: Place, operand: Verdict<'a>) -> Verdict<'a>
+    ensures { view.verdict result ≡ part (type_of (view.verdict operand.entry)) (negated_row place) }
+{
+    match operand {
+        Ok(gives) => negated_row(place, gives),
+        Err(_) => Err(NoType::Silent),
+    }
 }
 
 /// A phrase behind `~`.
 pub fn negated<'a>(spot: Spot<'a>, operand: Typed<'a>) -> Result<Typed<'a>, AllocError>
-    ensures { IfOk result (λ t. Finds t (rules.negated_out spot.entry.place spot.entry.first (found_view operand.entry))) }
+    ensures { IfOk result (λ t. Finds t
+        (rules.negated_out spot.entry.place spot.entry.first (found_view operand.entry))) }
 {
-    let verdict = match operand.verdict {
-        Ok(gives) => negated_row(spot.place, gives),
-        Err(_) => Err(NoType::Silent),
-    };
-    let operand = Box::new(spot.alloc, operand.draft)?;
-    Ok(made(spot, verdict, DraftKind::Negated(operand)))
+    let verdict = negated_verdict(spot.place, operand.verdict);
+    made(spot, verdict, DraftKind::Negated(operand.draft))
+}
+
+/// The verdict of a comparison, by those of its sides.
+fn relation_verdict<'a>(
+    place: Place,
+    op: RelOp,
+    left: Verdict<'a>,
+    right: Verdict<'a>,
+) -> Verdict<'a>
+    ensures { view.verdict result ≡ two_parts (type_of (view.verdict left.entry))
+        (type_of (view.verdict right.entry)) (relation_row op place) }
+{
+    match (left, right) {
+        (Ok(left), Ok(right)) => relation_row(op, place, left, right),
+        _ => Err(NoType::Silent),
+    }
 }
 
 /// A comparison.
@@ -130,39 +175,43 @@ pub fn relation<'a>(
     left: Typed<'a>,
     right: Typed<'a>,
 ) -> Result<Typed<'a>, AllocError>
-    ensures { IfOk result (λ t. Finds t (rules.relation_out spot.entry.place spot.entry.first op (found_view left.entry) (found_view right.entry))) }
+    ensures { IfOk result (λ t. Finds t (rules.relation_out spot.entry.place spot.entry.first op
+        (found_view left.entry) (found_view right.entry))) }
 {
-    let verdict = match (left.verdict, right.verdict) {
-        (Ok(left), Ok(right)) => relation_row(op, spot.place, left, right),
-        _ => Err(NoType::Silent),
-    };
-    let left = Box::new(spot.alloc, left.draft)?;
-    let right = Box::new(spot.alloc, right.draft)?;
-    Ok(made(spot, verdict, DraftKind::Relation(op, left, right)))
+    let verdict = relation_verdict(spot.place, op, left.verdict, right.verdict);
+    made(
+        spot,
+        verdict,
+        DraftKind::Relation(op, left.draft, right.draft),
+    )
+}
+
+/// The verdict of a phrase behind ABS or a sign, by that of the phrase.
+fn integer_verdict<'a>(place: Place, operand: Verdict<'a>) -> Verdict<'a>
+    ensures { view.verdict result ≡ part (type_of (view.verdict operand.entry)) (integer_row place) }
+{
+    match operand {
+        Ok(gives) => integer_row(place, gives),
+        Err(_) => Err(NoType::Silent),
+    }
 }
 
 /// The absolute value of a phrase.
 pub fn absolute<'a>(spot: Spot<'a>, operand: Typed<'a>) -> Result<Typed<'a>, AllocError>
-    ensures { IfOk result (λ t. Finds t (rules.absolute_out spot.entry.place spot.entry.first (found_view operand.entry))) }
+    ensures { IfOk result (λ t. Finds t
+        (rules.absolute_out spot.entry.place spot.entry.first (found_view operand.entry))) }
 {
-    let verdict = match operand.verdict {
-        Ok(gives) => integer_row(spot.place, gives),
-        Err(_) => Err(NoType::Silent),
-    };
-    let operand = Box::new(spot.alloc, operand.draft)?;
-    Ok(made(spot, verdict, DraftKind::Abs(operand)))
+    let verdict = integer_verdict(spot.place, operand.verdict);
+    made(spot, verdict, DraftKind::Abs(operand.draft))
 }
 
 /// A phrase behind a sign.
 pub fn signed<'a>(spot: Spot<'a>, minus: bool, operand: Typed<'a>) -> Result<Typed<'a>, AllocError>
-    ensures { IfOk result (λ t. Finds t (rules.signed_out spot.entry.place spot.entry.first minus (found_view operand.entry))) }
+    ensures { IfOk result (λ t. Finds t
+        (rules.signed_out spot.entry.place spot.entry.first minus (found_view operand.entry))) }
 {
-    let verdict = match operand.verdict {
-        Ok(gives) => integer_row(spot.place, gives),
-        Err(_) => Err(NoType::Silent),
-    };
-    let operand = Box::new(spot.alloc, operand.draft)?;
-    Ok(made(spot, verdict, DraftKind::Signed(minus, operand)))
+    let verdict = integer_verdict(spot.place, operand.verdict);
+    made(spot, verdict, DraftKind::Signed(minus, operand.draft))
 }
 
 /// The verdict of the front of a chain, of which a fault was given.
@@ -176,13 +225,9 @@ pub fn noted(verdict: Verdict<'_>) -> Verdict<'_>
 }
 
 /// The verdict of a chain with one more link.
-pub(crate) fn linked<'a>(
-    op: Op,
-    place: Place,
-    front: Verdict<'a>,
-    right: Verdict<'a>,
-) -> Verdict<'a>
-    ensures { view.verdict result ≡ rules.onward (view.verdict front.entry) (λ left. part (type_of (view.verdict right.entry)) (link_row op place left)) }
+fn linked<'a>(op: Op, place: Place, front: Verdict<'a>, right: Verdict<'a>) -> Verdict<'a>
+    ensures { view.verdict result ≡ rules.onward (view.verdict front.entry)
+        (λ left. part (type_of (view.verdict right.entry)) (link_row op place left)) }
 {
     let left = front?;
     match right {
@@ -192,68 +237,71 @@ pub(crate) fn linked<'a>(
 }
 
 /// A chain.
-#[tactic(auto, using(typed_drafts::proofs::DraftRows::vec_links))]
+#[tactic(auto, using(typed_drafts::proofs::DraftRows::slice_links))]
 pub fn chained<'a>(
     spot: Spot<'a>,
     first: Typed<'a>,
     links: Links<'a>,
 ) -> Result<Typed<'a>, AllocError>
-    ensures { IfOk result (λ t. Finds t (rules.chain_out spot.entry.place spot.entry.first (found_view first.entry) (links_view links.entry))) }
+    ensures { IfOk result (λ t. Finds t (rules.chain_out spot.entry.place spot.entry.first
+        (found_view first.entry) (links_view links.entry))) }
 {
-    let first = Box::new(spot.alloc, first.draft)?;
-    let kind = DraftKind::Chain(first, links.drafts);
-    Ok(made(spot, links.verdict, kind))
-}
-
-/// What a phrase with this verdict gives, where it has a type.
-pub(crate) fn given(verdict: Verdict<'_>) -> Option<PhraseType<'_>>
-    ensures { given_view result ≡ type_of (view.verdict verdict.entry) }
-{
-    verdict.ok()
+    let kind = DraftKind::Chain(first.draft, into_bump_slice(links.drafts));
+    made(spot, links.verdict, kind)
 }
 
 impl<'a> Phrases<'a> {
-    /// No phrases.
-    pub fn new(alloc: Global) -> Phrases<'a>
-        ensures gives { result.gives.items ≡ [] }
-        ensures drafts { result.drafts.items ≡ [] }
+    /// No phrases, with room for so many.
+    pub fn with_capacity(arena: &'a Bump, count: usize) -> Result<Phrases<'a>, AllocError>
+        ensures gives { IfOk result (λ phrases. phrases.gives.items ≡ []) }
+        ensures drafts { IfOk result (λ phrases. phrases.drafts.items ≡ []) }
     {
-        Phrases {
-            gives: Vec::new(alloc),
-            drafts: Vec::new(alloc),
-        }
+        Ok(Phrases {
+            gives: Vec::with_capacity(arena, count)?,
+            drafts: Vec::with_capacity(arena, count)?,
+        })
     }
 
     /// Adds a phrase.
     pub fn add(&mut self, typed: Typed<'a>) -> Result<(), AllocError>
-        ensures gives { OnOk result (map given_view self.new.gives.items ≡ map given_view self.old.gives.items ++ type_of (view.verdict typed.entry.verdict) ∷ []) }
-        ensures drafts { OnOk result (map draft_view self.new.drafts.items ≡ map draft_view self.old.drafts.items ++ draft_view typed.entry.draft ∷ []) }
+        ensures gives { OnOk result (map given_view self.new.gives.items
+            ≡ map given_view self.old.gives.items ++ type_of (view.verdict typed.entry.verdict) ∷ []) }
+        ensures drafts { OnOk result (map draft_view self.new.drafts.items
+            ≡ map draft_view self.old.drafts.items ++ draft_view typed.entry.draft.now ∷ []) }
     {
         self.gives.push(given(typed.verdict))?;
-        self.drafts.push(typed.draft)?;
+        self.drafts.push(*typed.draft)?;
         Ok(())
     }
 }
 
 impl<'a> Links<'a> {
-    /// No links behind a front with this verdict.
-    pub fn new(alloc: Global, front: Verdict<'a>) -> Links<'a>
-        ensures verdict { view.verdict result.verdict ≡ view.verdict front.entry }
-        ensures drafts { result.drafts.items ≡ [] }
+    /// No links behind a front with this verdict, with room for so many.
+    pub fn with_capacity(
+        arena: &'a Bump,
+        front: Verdict<'a>,
+        count: usize,
+    ) -> Result<Links<'a>, AllocError>
+        ensures verdict { IfOk result (λ links. view.verdict links.verdict ≡ view.verdict front.entry) }
+        ensures drafts { IfOk result (λ links. links.drafts.items ≡ []) }
     {
-        Links {
+        Ok(Links {
             verdict: front,
-            drafts: Vec::new(alloc),
-        }
+            drafts: Vec::with_capacity(arena, count)?,
+        })
     }
 
     /// Adds a link.
     pub fn add(&mut self, op: Op, place: Place, right: Typed<'a>) -> Result<(), AllocError>
-        ensures verdict { OnOk result (view.verdict self.new.verdict ≡ rules.onward (view.verdict self.old.verdict) (λ left. part (type_of (view.verdict right.entry.verdict)) (link_row op place left))) }
-        ensures drafts { OnOk result (map link_view self.new.drafts.items ≡ map link_view self.old.drafts.items ++ typed.Linked op place (draft_view right.entry.draft) ∷ []) }
+        ensures verdict { OnOk result (view.verdict self.new.verdict
+            ≡ rules.onward (view.verdict self.old.verdict)
+            (λ left. part (type_of (view.verdict right.entry.verdict)) (link_row op place left))) }
+        ensures drafts { OnOk result (map link_view self.new.drafts.items
+            ≡ map link_view self.old.drafts.items
+            ++ typed.Linked op place (draft_view right.entry.draft.now) ∷ []) }
     {
         self.verdict = linked(op, place, self.verdict, right.verdict);
-        let right = right.draft;
+        let right = *right.draft;
         self.drafts.push(DraftLink { op, place, right })?;
         Ok(())
     }

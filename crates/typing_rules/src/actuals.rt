@@ -15,7 +15,7 @@ use crate::types::{PhraseType, ValueType};
 use crate::verdicts::{NoType, Verdict};
 use bumpalo::Bump;
 use std::alloc::AllocError;
-use value_ops::Place;
+use value_ops::{Diagnostic, Place};
 
 /// How the parts of a list are read.
 #[derive(Clone, Copy)]
@@ -43,7 +43,8 @@ pub enum Wanted<'a> {
 
 /// Silent where a part has no type.
 pub fn all_read(parts: &[Part<'_>]) -> Result<(), NoType>
-    ensures { (row : verdicts.Verdict) → view.after result (λ _. row) ≡ meanings.all_read (map view.part parts.now) row }
+    ensures { (row : verdicts.Verdict) → view.after result (λ _. row)
+        ≡ meanings.all_read (map view.part parts.now) row }
 {
     for part in parts {
         if let Part::Typeless = part {
@@ -57,42 +58,53 @@ pub fn all_read(parts: &[Part<'_>]) -> Result<(), NoType>
 
 /// VALUE, and by name.
 fn value_actual(place: Place, formal: ValueType<'_>, part: Part<'_>) -> Result<(), NoType>
-    ensures { (row : verdicts.Verdict) → view.after result (λ _. row) ≡ actuals.value_actual place (value_type formal.entry) (view.part part.entry) row }
+    ensures { (row : verdicts.Verdict) → view.after result (λ _. row)
+        ≡ actuals.value_actual place (value_type formal.entry) (view.part part.entry) row }
 {
     match part {
-        Part::Phrase(_, gives) => unless(value(place, gives)?.fits(formal), 37, place),
+        Part::Phrase(_, gives) => unless(
+            value(place, gives)?.fits(formal),
+            Diagnostic::TYPE_DOES_NOT_FIT,
+            place,
+        ),
         Part::Typeless => Err(NoType::Silent),
-        _ => fault(place, 40),
+        _ => fault(place, Diagnostic::WRONG_KIND_OF_ACTUAL),
     }
 }
 
 /// RESULT.
 fn result_actual(place: Place, formal: ValueType<'_>, part: Part<'_>) -> Result<(), NoType>
-    ensures { (row : verdicts.Verdict) → view.after result (λ _. row) ≡ actuals.result_actual place (value_type formal.entry) (view.part part.entry) row }
+    ensures { (row : verdicts.Verdict) → view.after result (λ _. row)
+        ≡ actuals.result_actual place (value_type formal.entry) (view.part part.entry) row }
 {
     match part {
         Part::Phrase(is_variable, gives) => {
             let given = value(place, gives)?;
-            unless(is_variable, 38, place)?;
-            unless(formal.fits(given), 37, place)
+            unless(is_variable, Diagnostic::NOT_A_VARIABLE, place)?;
+            unless(formal.fits(given), Diagnostic::TYPE_DOES_NOT_FIT, place)
         }
         Part::Typeless => Err(NoType::Silent),
-        _ => fault(place, 40),
+        _ => fault(place, Diagnostic::WRONG_KIND_OF_ACTUAL),
     }
 }
 
 /// VALUE RESULT.
 fn value_result_actual(place: Place, formal: ValueType<'_>, part: Part<'_>) -> Result<(), NoType>
-    ensures { (row : verdicts.Verdict) → view.after result (λ _. row) ≡ actuals.value_result_actual place (value_type formal.entry) (view.part part.entry) row }
+    ensures { (row : verdicts.Verdict) → view.after result (λ _. row)
+        ≡ actuals.value_result_actual place (value_type formal.entry) (view.part part.entry) row }
 {
     match part {
         Part::Phrase(is_variable, gives) => {
             let given = value(place, gives)?;
-            unless(is_variable, 38, place)?;
-            unless(given.fits(formal) && formal.fits(given), 37, place)
+            unless(is_variable, Diagnostic::NOT_A_VARIABLE, place)?;
+            unless(
+                given.fits(formal) && formal.fits(given),
+                Diagnostic::TYPE_DOES_NOT_FIT,
+                place,
+            )
         }
         Part::Typeless => Err(NoType::Silent),
-        _ => fault(place, 40),
+        _ => fault(place, Diagnostic::WRONG_KIND_OF_ACTUAL),
     }
 }
 
@@ -103,45 +115,65 @@ fn array_actual(
     dimensions: u32,
     part: Part<'_>,
 ) -> Result<(), NoType>
-    ensures { (row : verdicts.Verdict) → view.after result (λ _. row) ≡ actuals.array_actual place (value_type formal.entry) dimensions (view.part part.entry) row }
+    ensures { (row : verdicts.Verdict) → view.after result (λ _. row)
+        ≡ actuals.array_actual place (value_type formal.entry) dimensions (view.part part.entry) row }
 {
     match part {
         Part::Array(element, given) => {
-            unless(dimensions == given, 39, place)?;
-            unless(element.is_same(formal), 37, place)
+            unless(
+                dimensions == given,
+                Diagnostic::WRONG_NUMBER_OF_PARTS,
+                place,
+            )?;
+            unless(
+                element.is_same(formal),
+                Diagnostic::TYPE_DOES_NOT_FIT,
+                place,
+            )
         }
         Part::Typeless => Err(NoType::Silent),
-        _ => fault(place, 40),
+        _ => fault(place, Diagnostic::WRONG_KIND_OF_ACTUAL),
     }
 }
 
 /// PROCEDURE without type.
 fn statement_actual(place: Place, part: Part<'_>) -> Result<(), NoType>
-    ensures { (row : verdicts.Verdict) → view.after result (λ _. row) ≡ actuals.statement_actual place (view.part part.entry) row }
+    ensures { (row : verdicts.Verdict) → view.after result (λ _. row)
+        ≡ actuals.statement_actual place (view.part part.entry) row }
 {
     match part {
         Part::Phrase(_, gives) => statement(place, gives),
         Part::Procedure(None) => Ok(()),
         Part::Typeless => Err(NoType::Silent),
-        _ => fault(place, 40),
+        _ => fault(place, Diagnostic::WRONG_KIND_OF_ACTUAL),
     }
 }
 
 /// PROCEDURE with a type.
 fn function_actual(place: Place, formal: ValueType<'_>, part: Part<'_>) -> Result<(), NoType>
-    ensures { (row : verdicts.Verdict) → view.after result (λ _. row) ≡ actuals.function_actual place (value_type formal.entry) (view.part part.entry) row }
+    ensures { (row : verdicts.Verdict) → view.after result (λ _. row)
+        ≡ actuals.function_actual place (value_type formal.entry) (view.part part.entry) row }
 {
     match part {
-        Part::Phrase(_, gives) => unless(value(place, gives)?.fits(formal), 37, place),
-        Part::Procedure(Some(given)) => unless(given.is_same(formal), 37, place),
+        Part::Phrase(_, gives) => unless(
+            value(place, gives)?.fits(formal),
+            Diagnostic::TYPE_DOES_NOT_FIT,
+            place,
+        ),
+        Part::Procedure(Some(given)) => unless(
+            given.is_same(formal),
+            Diagnostic::TYPE_DOES_NOT_FIT,
+            place,
+        ),
         Part::Typeless => Err(NoType::Silent),
-        _ => fault(place, 40),
+        _ => fault(place, Diagnostic::WRONG_KIND_OF_ACTUAL),
     }
 }
 
 /// An actual against its formal.
 fn actual_fits(place: Place, formal: FormalType<'_>, part: Part<'_>) -> Result<(), NoType>
-    ensures { (row : verdicts.Verdict) → view.after result (λ _. row) ≡ actuals.table_a place (view.formal_type formal.entry) (view.part part.entry) row }
+    ensures { (row : verdicts.Verdict) → view.after result (λ _. row)
+        ≡ actuals.table_a place (view.formal_type formal.entry) (view.part part.entry) row }
 {
     match formal {
         FormalType::ByName(formal) | FormalType::ByValue(formal) => value_actual(
@@ -157,7 +189,8 @@ fn actual_fits(place: Place, formal: FormalType<'_>, part: Part<'_>) -> Result<(
 
 /// Each actual against its formal, one after the other.
 fn actuals_fit(place: Place, formals: &[FormalType<'_>], parts: &[Part<'_>]) -> Result<(), NoType>
-    ensures { (row : verdicts.Verdict) → view.after result (λ _. row) ≡ actuals.actuals_fit place (map view.formal_type formals.now) (map view.part parts.now) row }
+    ensures { (row : verdicts.Verdict) → view.after result (λ _. row)
+        ≡ actuals.actuals_fit place (map view.formal_type formals.now) (map view.part parts.now) row }
 {
     for (formal, part) in formals.iter().zip(parts) {
         actual_fits(place, *formal, *part)?;
@@ -172,7 +205,8 @@ fn call_row<'a>(
     formals: &[FormalType<'a>],
     parts: &[Part<'a>],
 ) -> Verdict<'a>
-    ensures { verdict result ≡ actuals.call_row place (option_map value_type result_type.entry) (map view.formal_type formals.now) (map view.part parts.now) }
+    ensures { verdict result ≡ actuals.call_row place (option_map value_type result_type.entry)
+        (map view.formal_type formals.now) (map view.part parts.now) }
 {
     no_star(place, parts)?;
     right_number(place, formals.len(), parts)?;
@@ -186,7 +220,8 @@ fn formal_call_row<'a>(
     result_type: Option<ValueType<'a>>,
     parts: &[Part<'a>],
 ) -> Verdict<'a>
-    ensures { verdict result ≡ actuals.formal_call_row place (option_map value_type result_type.entry) (map view.part parts.now) }
+    ensures { verdict result ≡ actuals.formal_call_row place
+        (option_map value_type result_type.entry) (map view.part parts.now) }
 {
     no_star(place, parts)?;
     Ok(gives_of(result_type))
@@ -200,7 +235,8 @@ pub fn list_row<'a>(
     declared: Place,
     parts: &[Part<'a>],
 ) -> Result<Verdict<'a>, AllocError>
-    ensures { IfOk result (λ found. verdict found ≡ actuals.list_row place (view.meaning meaning.entry) declared (map view.part parts.now)) }
+    ensures { IfOk result (λ found.
+        verdict found ≡ actuals.list_row place (view.meaning meaning.entry) declared (map view.part parts.now)) }
 {
     match meaning {
         Meaning::Class(fields) => class_row(arena, place, fields, declared, parts),
@@ -214,7 +250,10 @@ pub fn list_row<'a>(
         Meaning::ProcedureFormal(result_type) => Ok(formal_call_row(place, result_type, parts)),
         Meaning::Field(class, field) => Ok(field_row(place, class, field, parts)),
         Meaning::Standard(standard) => Ok(standard_row(place, standard, parts)),
-        Meaning::Variable(_) | Meaning::Label | Meaning::Control => Ok(fault(place, 41)),
+        Meaning::Variable(_) | Meaning::Label | Meaning::Control => Ok(fault(
+            place,
+            Diagnostic::NAME_NOT_USED_SO,
+        )),
     }
 }
 
@@ -256,7 +295,8 @@ pub fn phrase_part<'a>(is_variable: bool, gives: Option<PhraseType<'a>>) -> Part
 
 /// A name alone that is read as a phrase: its row gives the verdict.
 fn name_as_phrase<'a>(meaning: Meaning<'a>, found: Verdict<'a>) -> Part<'a>
-    ensures { view.part result ≡ actuals.phrase_part (actuals.is_variable_name (view.meaning meaning.entry)) (verdicts.type_of (verdict found.entry)) }
+    ensures { view.part result ≡ actuals.phrase_part
+        (actuals.is_variable_name (view.meaning meaning.entry)) (verdicts.type_of (verdict found.entry)) }
 {
     phrase_part(meaning.is_variable_name(), found.ok())
 }
@@ -267,7 +307,8 @@ fn procedure_name<'a>(
     result_type: Option<ValueType<'a>>,
     formals: &[FormalType<'a>],
 ) -> Part<'a>
-    ensures { view.part result ≡ actuals.procedure_name is_wanted (option_map value_type result_type.entry) (map view.formal_type formals.now) }
+    ensures { view.part result ≡ actuals.procedure_name is_wanted
+        (option_map value_type result_type.entry) (map view.formal_type formals.now) }
 {
     if is_wanted {
         Part::Procedure(result_type)
@@ -288,7 +329,8 @@ impl<'a> FormalType<'a> {
 
     /// A name alone as an actual that stands for this formal.
     fn read_name(self, meaning: Meaning<'a>, found: Verdict<'a>) -> Part<'a>
-        ensures { view.part result ≡ actuals.formal_name (view.formal_type self.entry) (view.meaning meaning.entry) (verdict found.entry) }
+        ensures { view.part result ≡ actuals.formal_name
+            (view.formal_type self.entry) (view.meaning meaning.entry) (verdict found.entry) }
     {
         match meaning {
             Meaning::Array(element, dimensions) => Part::Array(element, dimensions),
@@ -306,7 +348,8 @@ impl<'a> FormalType<'a> {
 impl<'a> Wanted<'a> {
     /// A name alone as a part: its row as a phrase gives the verdict.
     pub fn read_name(self, meaning: Meaning<'a>, found: Verdict<'a>) -> Part<'a>
-        ensures { view.part result ≡ actuals.name_read (view.wanted self.entry) (view.meaning meaning.entry) (verdict found.entry) }
+        ensures { view.part result ≡ actuals.name_read
+            (view.wanted self.entry) (view.meaning meaning.entry) (verdict found.entry) }
     {
         match (self, meaning) {
             (Wanted::Formal(formal), _) => formal.read_name(meaning, found),
@@ -355,7 +398,8 @@ fn stars(parts: &[Part<'_>]) -> u32
 
 /// 35, 37 a part that is no `*` and no INTEGER.
 fn subscripts(place: Place, parts: &[Part<'_>]) -> Result<(), NoType>
-    ensures { (row : verdicts.Verdict) → view.after result (λ _. row) ≡ actuals.subscripts place (map view.part parts.now) row }
+    ensures { (row : verdicts.Verdict) → view.after result (λ _. row)
+        ≡ actuals.subscripts place (map view.part parts.now) row }
 {
     for part in parts {
         match part {
@@ -386,7 +430,8 @@ pub fn subarray_part<'a>(
     found: Verdict<'a>,
 ) -> Part<'a>
     requires { OnOk found (length parts.now < 2 ^ 32) }
-    ensures { view.part result ≡ actuals.subarray_part (view.wanted wanted.entry) (value_type element.entry) (map view.part parts.now) (verdict found.entry) }
+    ensures { view.part result ≡ actuals.subarray_part
+        (view.wanted wanted.entry) (value_type element.entry) (map view.part parts.now) (verdict found.entry) }
 {
     match (wanted, found) {
         (_, Err(_)) => Part::Typeless,

@@ -25,11 +25,12 @@ pub(crate) fn unless(holds: bool, number: u8, place: Place) -> Result<(), NoType
 
 /// 35 where the part is a statement.
 pub(crate) fn value<'a>(place: Place, gives: PhraseType<'a>) -> Result<ValueType<'a>, NoType>
-    ensures { (row : types.ValueType → verdicts.Verdict) → after result (λ t. row (value_type t)) ≡ verdicts.value place (phrase_type gives.entry) row }
+    ensures { (row : types.ValueType → verdicts.Verdict) → after result (λ t. row (value_type t))
+        ≡ verdicts.value place (phrase_type gives.entry) row }
 {
     match gives {
         PhraseType::Value(value_type) => Ok(value_type),
-        PhraseType::Statement => fault(place, 35),
+        PhraseType::Statement => fault(place, Diagnostic::VALUE_NEEDED),
     }
 }
 
@@ -38,16 +39,21 @@ pub(crate) fn integer(place: Place, gives: PhraseType<'_>) -> Result<(), NoType>
     ensures { (row : verdicts.Verdict) → after result (λ _. row) ≡ verdicts.int place (phrase_type gives.entry) row }
 {
     let value_type = value(place, gives)?;
-    unless(matches!(value_type, ValueType::Integer), 37, place)
+    unless(
+        matches!(value_type, ValueType::Integer),
+        Diagnostic::TYPE_DOES_NOT_FIT,
+        place,
+    )
 }
 
 /// 36 unless a statement.
 pub(crate) fn statement(place: Place, gives: PhraseType<'_>) -> Result<(), NoType>
-    ensures { (row : verdicts.Verdict) → after result (λ _. row) ≡ verdicts.statement place (phrase_type gives.entry) row }
+    ensures { (row : verdicts.Verdict) → after result (λ _. row)
+        ≡ verdicts.statement place (phrase_type gives.entry) row }
 {
     match gives {
         PhraseType::Statement => Ok(()),
-        PhraseType::Value(_) => fault(place, 36),
+        PhraseType::Value(_) => fault(place, Diagnostic::STATEMENT_NEEDED),
     }
 }
 
@@ -56,12 +62,17 @@ pub(crate) fn logical(place: Place, gives: PhraseType<'_>) -> Result<(), NoType>
     ensures { (row : verdicts.Verdict) → after result (λ _. row) ≡ verdicts.log place (phrase_type gives.entry) row }
 {
     let value_type = value(place, gives)?;
-    unless(matches!(value_type, ValueType::Logical), 37, place)
+    unless(
+        matches!(value_type, ValueType::Logical),
+        Diagnostic::TYPE_DOES_NOT_FIT,
+        place,
+    )
 }
 
 /// 35 where any part is a statement.
 pub(crate) fn values(place: Place, parts: &[PhraseType]) -> Result<(), NoType>
-    ensures { (row : List types.ValueType → verdicts.Verdict) → after result (λ _. row (values_of parts.now)) ≡ verdicts.all_values place (map phrase_type parts.now) row }
+    ensures { (row : List types.ValueType → verdicts.Verdict) →
+        after result (λ _. row (values_of parts.now)) ≡ verdicts.all_values place (map phrase_type parts.now) row }
 {
     for part in parts {
         value(place, *part)?;
@@ -81,7 +92,8 @@ pub(crate) fn integers(place: Place, parts: &[PhraseType]) -> Result<(), NoType>
 
 /// 36 where any part is no statement.
 pub(crate) fn statements(place: Place, parts: &[PhraseType]) -> Result<(), NoType>
-    ensures { (row : verdicts.Verdict) → after result (λ _. row) ≡ verdicts.all_statements place (map phrase_type parts.now) row }
+    ensures { (row : verdicts.Verdict) → after result (λ _. row)
+        ≡ verdicts.all_statements place (map phrase_type parts.now) row }
 {
     for part in parts {
         statement(place, *part)?;

@@ -6,8 +6,6 @@ mod class_set;
 mod conditions;
 mod meanings;
 mod rows;
-#[cfg(test)]
-mod tests;
 mod types;
 mod verdicts;
 

@@ -14,7 +14,7 @@ use crate::types::{PhraseType, ValueType};
 use crate::verdicts::{NoType, Verdict};
 use bumpalo::Bump;
 use std::alloc::AllocError;
-use value_ops::Place;
+use value_ops::{Diagnostic, Place};
 
 /// A name that is declared in a block round the program.
 #[derive(Clone, Copy)]
@@ -151,8 +151,12 @@ pub fn alone_row<'a>(
         Meaning::Control | Meaning::Standard(Standard::MaxInteger) => {
             Ok(PhraseType::Value(ValueType::Integer))
         }
-        Meaning::Procedure(_, _) | Meaning::Standard(_) => fault(place, 39),
-        Meaning::Array(_, _) | Meaning::Field(_, _) | Meaning::Label => fault(place, 41),
+        Meaning::Procedure(_, _) | Meaning::Standard(_) => {
+            fault(place, Diagnostic::WRONG_NUMBER_OF_PARTS)
+        }
+        Meaning::Array(_, _) | Meaning::Field(_, _) | Meaning::Label => {
+            fault(place, Diagnostic::NAME_NOT_USED_SO)
+        }
     })
 }
 
@@ -161,7 +165,7 @@ fn no_base<'a>(place: Place, start: Option<PhraseType<'a>>) -> Verdict<'a>
     ensures { verdict result ≡ meanings.no_base place (option_map phrase_type start.entry) }
 {
     match start {
-        Some(_) => fault(place, 41),
+        Some(_) => fault(place, Diagnostic::NAME_NOT_USED_SO),
         None => Err(NoType::Silent),
     }
 }
@@ -172,7 +176,8 @@ pub fn base_row<'a>(
     meaning: Meaning<'a>,
     start: Option<PhraseType<'a>>,
 ) -> Verdict<'a>
-    ensures { verdict result ≡ meanings.base_row place (view.meaning meaning.entry) (option_map phrase_type start.entry) }
+    ensures { verdict result ≡ meanings.base_row place
+        (view.meaning meaning.entry) (option_map phrase_type start.entry) }
 {
     match meaning {
         Meaning::Variable(value_type)
@@ -181,7 +186,7 @@ pub fn base_row<'a>(
         Meaning::Control | Meaning::Standard(Standard::MaxInteger) => {
             Ok(PhraseType::Value(ValueType::Integer))
         }
-        Meaning::Label => fault(place, 41),
+        Meaning::Label => fault(place, Diagnostic::NAME_NOT_USED_SO),
         Meaning::Array(_, _)
         | Meaning::Procedure(_, _)
         | Meaning::ProcedureFormal(_)
@@ -198,27 +203,29 @@ pub fn part_row<'a>(
     base: PhraseType<'a>,
     start: PhraseType<'a>,
 ) -> Verdict<'a>
-    ensures { verdict result ≡ meanings.part_row place (written length) (phrase_type base.entry) (phrase_type start.entry) }
+    ensures { verdict result ≡ meanings.part_row place
+        (written length) (phrase_type base.entry) (phrase_type start.entry) }
 {
     integer(place, start)?;
     let PhraseType::Value(ValueType::Str(most)) = base else {
-        return fault(place, 34);
+        return fault(place, Diagnostic::OPERATOR_DOES_NOT_FIT);
     };
     if length < 1 {
-        return fault(place, 32);
+        return fault(place, Diagnostic::NUMBER_OUT_OF_RANGE);
     }
     let length = length as u32;
-    unless(length <= most, 32, place)?;
+    unless(length <= most, Diagnostic::NUMBER_OUT_OF_RANGE, place)?;
     Ok(PhraseType::Value(ValueType::Str(length)))
 }
 
 /// 40 a `*`.
 pub(crate) fn no_star(place: Place, parts: &[Part<'_>]) -> Result<(), NoType>
-    ensures { (row : verdicts.Verdict) → view.after result (λ _. row) ≡ meanings.no_star place (map view.part parts.now) row }
+    ensures { (row : verdicts.Verdict) → view.after result (λ _. row)
+        ≡ meanings.no_star place (map view.part parts.now) row }
 {
     for part in parts {
         if let Part::Star = part {
-            return fault(place, 40);
+            return fault(place, Diagnostic::WRONG_KIND_OF_ACTUAL);
         }
     }
     Ok(())
@@ -226,14 +233,20 @@ pub(crate) fn no_star(place: Place, parts: &[Part<'_>]) -> Result<(), NoType>
 
 /// 39 unless there are so many parts.
 pub(crate) fn right_number(place: Place, number: usize, parts: &[Part<'_>]) -> Result<(), NoType>
-    ensures { (row : verdicts.Verdict) → view.after result (λ _. row) ≡ meanings.right_number place number (map view.part parts.now) row }
+    ensures { (row : verdicts.Verdict) → view.after result (λ _. row)
+        ≡ meanings.right_number place number (map view.part parts.now) row }
 {
-    unless(number == parts.len(), 39, place)
+    unless(
+        number == parts.len(),
+        Diagnostic::WRONG_NUMBER_OF_PARTS,
+        place,
+    )
 }
 
 /// What a phrase in a list gives.
 pub(crate) fn of_phrase<'a>(part: Part<'a>) -> Result<PhraseType<'a>, NoType>
-    ensures { (row : types.Gives → verdicts.Verdict) → view.after result (λ g. row (phrase_type g)) ≡ meanings.of_phrase (view.part part.entry) row }
+    ensures { (row : types.Gives → verdicts.Verdict) → view.after result (λ g. row (phrase_type g))
+        ≡ meanings.of_phrase (view.part part.entry) row }
 {
     match part {
         Part::Phrase(_, gives) => Ok(gives),
@@ -243,7 +256,8 @@ pub(crate) fn of_phrase<'a>(part: Part<'a>) -> Result<PhraseType<'a>, NoType>
 
 /// 35, 37 a part that is no INTEGER.
 fn integers(place: Place, parts: &[Part<'_>]) -> Result<(), NoType>
-    ensures { (row : verdicts.Verdict) → view.after result (λ _. row) ≡ meanings.ints_read place (map view.part parts.now) row }
+    ensures { (row : verdicts.Verdict) → view.after result (λ _. row)
+        ≡ meanings.ints_read place (map view.part parts.now) row }
 {
     for part in parts {
         integer(place, of_phrase(*part)?)?;
@@ -258,7 +272,8 @@ pub(crate) fn array_row<'a>(
     dimensions: u32,
     parts: &[Part<'a>],
 ) -> Verdict<'a>
-    ensures { verdict result ≡ meanings.array_row place (value_type element.entry) dimensions (map view.part parts.now) }
+    ensures { verdict result ≡ meanings.array_row place
+        (value_type element.entry) dimensions (map view.part parts.now) }
 {
     let number = dimensions as usize;
     no_star(place, parts)?;
@@ -269,18 +284,22 @@ pub(crate) fn array_row<'a>(
 
 /// 35, 37 a part whose value does not fit its field.
 fn field_values(place: Place, fields: &[ValueType<'_>], parts: &[Part<'_>]) -> Result<(), NoType>
-    ensures { (row : verdicts.Verdict) → view.after result (λ _. row) ≡ meanings.field_values place (map value_type fields.now) (map view.part parts.now) row }
+    ensures { (row : verdicts.Verdict) → view.after result (λ _. row)
+        ≡ meanings.field_values place (map value_type fields.now) (map view.part parts.now) row }
 {
     for (field, part) in fields.iter().zip(parts) {
         let given = value(place, of_phrase(*part)?)?;
-        unless(given.fits(*field), 37, place)?;
+        unless(given.fits(*field), Diagnostic::TYPE_DOES_NOT_FIT, place)?;
     }
     Ok(())
 }
 
 /// Whether the parts of a list are such as the fields of a class ask for.
 fn fields_given(place: Place, fields: &[ValueType<'_>], parts: &[Part<'_>]) -> Result<(), NoType>
-    ensures { (row : verdicts.Verdict) → view.after result (λ _. row) ≡ meanings.no_star place (map view.part parts.now) (meanings.right_number place (length fields.now) (map view.part parts.now) (meanings.field_values place (map value_type fields.now) (map view.part parts.now) row)) }
+    ensures { (row : verdicts.Verdict) → view.after result (λ _. row)
+        ≡ meanings.no_star place (map view.part parts.now)
+        (meanings.right_number place (length fields.now) (map view.part parts.now)
+        (meanings.field_values place (map value_type fields.now) (map view.part parts.now) row)) }
 {
     no_star(place, parts)?;
     right_number(place, fields.len(), parts)?;
@@ -295,7 +314,8 @@ pub(crate) fn class_row<'a>(
     declared: Place,
     parts: &[Part<'a>],
 ) -> Result<Verdict<'a>, AllocError>
-    ensures { IfOk result (λ found. verdict found ≡ meanings.class_row place (map value_type fields.now) declared (map view.part parts.now)) }
+    ensures { IfOk result (λ found.
+        verdict found ≡ meanings.class_row place (map value_type fields.now) declared (map view.part parts.now)) }
 {
     match fields_given(place, fields, parts) {
         Ok(()) => Ok(Ok(reference_to(arena, declared)?)),
@@ -305,11 +325,12 @@ pub(crate) fn class_row<'a>(
 
 /// 39 unless there is one part: then what it gives.
 fn one_part<'a>(place: Place, parts: &[Part<'a>]) -> Result<PhraseType<'a>, NoType>
-    ensures { (row : types.Gives → verdicts.Verdict) → view.after result (λ g. row (phrase_type g)) ≡ meanings.one_part place (map view.part parts.now) row }
+    ensures { (row : types.Gives → verdicts.Verdict) → view.after result (λ g. row (phrase_type g))
+        ≡ meanings.one_part place (map view.part parts.now) row }
 {
     match parts {
         [part] => of_phrase(*part),
-        _ => fault(place, 39),
+        _ => fault(place, Diagnostic::WRONG_NUMBER_OF_PARTS),
     }
 }
 
@@ -335,13 +356,19 @@ pub(crate) fn field_row<'a>(
 {
     no_star(place, parts)?;
     let given = value(place, one_part(place, parts)?)?;
-    unless(refers_to(given, class), 37, place)?;
+    unless(
+        refers_to(given, class),
+        Diagnostic::TYPE_DOES_NOT_FIT,
+        place,
+    )?;
     Ok(PhraseType::Value(field))
 }
 
 /// 35 where any part is a statement.
 fn values(place: Place, parts: &[Part<'_>]) -> Result<(), NoType>
-    ensures { (row : List types.ValueType → verdicts.Verdict) → view.after result (λ _. row (view.values_of (map view.part parts.now))) ≡ meanings.values_read place (map view.part parts.now) row }
+    ensures { (row : List types.ValueType → verdicts.Verdict) →
+        view.after result (λ _. row (view.values_of (map view.part parts.now)))
+        ≡ meanings.values_read place (map view.part parts.now) row }
 {
     for part in parts {
         value(place, of_phrase(*part)?)?;
@@ -351,11 +378,13 @@ fn values(place: Place, parts: &[Part<'_>]) -> Result<(), NoType>
 
 /// 38 where any part is no variable.
 fn variables(place: Place, parts: &[Part<'_>]) -> Result<(), NoType>
-    ensures { (row : List types.ValueType → verdicts.Verdict) → view.after result (λ _. row (view.values_of (map view.part parts.now))) ≡ meanings.variables_read place (map view.part parts.now) row }
+    ensures { (row : List types.ValueType → verdicts.Verdict) →
+        view.after result (λ _. row (view.values_of (map view.part parts.now)))
+        ≡ meanings.variables_read place (map view.part parts.now) row }
 {
     for part in parts {
         let Part::Phrase(true, PhraseType::Value(_)) = part else {
-            return fault(place, 38);
+            return fault(place, Diagnostic::NOT_A_VARIABLE);
         };
     }
     Ok(())
@@ -363,11 +392,12 @@ fn variables(place: Place, parts: &[Part<'_>]) -> Result<(), NoType>
 
 /// 37 where the value of any part is a reference.
 fn no_references(place: Place, parts: &[Part<'_>]) -> Result<(), NoType>
-    ensures { (row : verdicts.Verdict) → view.after result (λ _. row) ≡ meanings.no_references place (view.values_of (map view.part parts.now)) row }
+    ensures { (row : verdicts.Verdict) → view.after result (λ _. row)
+        ≡ meanings.no_references place (view.values_of (map view.part parts.now)) row }
 {
     for part in parts {
         if let Part::Phrase(_, PhraseType::Value(ValueType::Reference(_))) = part {
-            return fault(place, 37);
+            return fault(place, Diagnostic::TYPE_DOES_NOT_FIT);
         }
     }
     Ok(())
@@ -375,14 +405,17 @@ fn no_references(place: Place, parts: &[Part<'_>]) -> Result<(), NoType>
 
 /// 37 where any part has a value that is no STRING of at least 80.
 fn card_strings(place: Place, parts: &[Part<'_>]) -> Result<(), NoType>
-    ensures { (row : verdicts.Verdict) → view.after result (λ _. row) ≡ meanings.card_strings place (view.values_of (map view.part parts.now)) row }
+    ensures { (row : verdicts.Verdict) → view.after result (λ _. row)
+        ≡ meanings.card_strings place (view.values_of (map view.part parts.now)) row }
 {
     for part in parts {
         match part {
             Part::Phrase(_, PhraseType::Value(ValueType::Str(length))) => {
-                unless(*length >= 80, 37, place)?;
+                unless(*length >= 80, Diagnostic::TYPE_DOES_NOT_FIT, place)?;
             }
-            Part::Phrase(_, PhraseType::Value(_)) => return fault(place, 37),
+            Part::Phrase(_, PhraseType::Value(_)) => {
+                return fault(place, Diagnostic::TYPE_DOES_NOT_FIT);
+            }
             _ => {}
         }
     }
@@ -434,7 +467,11 @@ fn number_row<'a>(place: Place, parts: &[Part<'a>]) -> Verdict<'a>
 {
     no_star(place, parts)?;
     let given = value(place, one_part(place, parts)?)?;
-    unless(matches!(given, ValueType::Bits), 37, place)?;
+    unless(
+        matches!(given, ValueType::Bits),
+        Diagnostic::TYPE_DOES_NOT_FIT,
+        place,
+    )?;
     Ok(PhraseType::Value(ValueType::Integer))
 }
 
@@ -444,7 +481,11 @@ fn decode_row<'a>(place: Place, parts: &[Part<'a>]) -> Verdict<'a>
 {
     no_star(place, parts)?;
     let given = value(place, one_part(place, parts)?)?;
-    unless(matches!(given, ValueType::Str(1)), 37, place)?;
+    unless(
+        matches!(given, ValueType::Str(1)),
+        Diagnostic::TYPE_DOES_NOT_FIT,
+        place,
+    )?;
     Ok(PhraseType::Value(ValueType::Integer))
 }
 
@@ -462,6 +503,6 @@ pub(crate) fn standard_row<'a>(place: Place, standard: Standard, parts: &[Part<'
         Standard::Read | Standard::ReadOn => read_row(place, parts),
         Standard::ReadCard => read_card_row(place, parts),
         Standard::Write | Standard::WriteOn => write_row(place, parts),
-        Standard::MaxInteger => fault(place, 41),
+        Standard::MaxInteger => fault(place, Diagnostic::NAME_NOT_USED_SO),
     }
 }

@@ -16,7 +16,7 @@ use crate::verdicts::Verdict;
 use algolw_tree::{Op, RelOp};
 use bumpalo::Bump;
 use std::alloc::AllocError;
-use value_ops::Place;
+use value_ops::{Diagnostic, Place};
 
 /// What stands at the left of an assignment.
 #[derive(Clone, Copy, Debug, PartialEq, Eq)]
@@ -50,7 +50,7 @@ pub fn procedure_row<'a>(
         None => statement(place, body)?,
         Some(stated) => {
             if !value(place, body)?.fits(stated) {
-                return fault(place, 37);
+                return fault(place, Diagnostic::TYPE_DOES_NOT_FIT);
             }
         }
     }
@@ -97,7 +97,8 @@ pub fn if_else_row<'a>(
     then: PhraseType<'a>,
     otherwise: PhraseType<'a>,
 ) -> Result<Verdict<'a>, AllocError>
-    ensures { IfOk result (λ r. verdict r ≡ rows.if_else_row place (phrase_type condition.entry) (phrase_type then.entry) (phrase_type otherwise.entry)) }
+    ensures { IfOk result (λ r. verdict r ≡ rows.if_else_row place
+        (phrase_type condition.entry) (phrase_type then.entry) (phrase_type otherwise.entry)) }
 {
     if let Err(why) = logical(place, condition) {
         return Ok(Err(why));
@@ -107,7 +108,7 @@ pub fn if_else_row<'a>(
         (PhraseType::Value(then), PhraseType::Value(otherwise)) => {
             Ok(joined(place, then.join(arena, otherwise)?))
         }
-        _ => Ok(fault(place, 37)),
+        _ => Ok(fault(place, Diagnostic::TYPE_DOES_NOT_FIT)),
     }
 }
 
@@ -117,7 +118,7 @@ fn joined<'a>(place: Place, both: Option<ValueType<'a>>) -> Verdict<'a>
 {
     match both {
         Some(both) => Ok(PhraseType::Value(both)),
-        None => fault(place, 37),
+        None => fault(place, Diagnostic::TYPE_DOES_NOT_FIT),
     }
 }
 
@@ -128,7 +129,8 @@ pub fn case_value_row<'a>(
     selector: PhraseType<'a>,
     parts: &[PhraseType<'a>],
 ) -> Result<Verdict<'a>, AllocError>
-    ensures { IfOk result (λ r. verdict r ≡ rows.case_value_row place (phrase_type selector.entry) (map phrase_type parts.now)) }
+    ensures { IfOk result (λ r.
+        verdict r ≡ rows.case_value_row place (phrase_type selector.entry) (map phrase_type parts.now)) }
 {
     if let Err(why) = integer(place, selector) {
         return Ok(Err(why));
@@ -164,7 +166,8 @@ fn join_next<'a>(
     before: Option<ValueType<'a>>,
     next: ValueType<'a>,
 ) -> Result<Option<ValueType<'a>>, AllocError>
-    ensures { IfOk result (λ t. option_map value_type t ≡ join_next (option_map value_type before.entry) (value_type next.entry)) }
+    ensures { IfOk result (λ t.
+        option_map value_type t ≡ join_next (option_map value_type before.entry) (value_type next.entry)) }
 {
     match before {
         None => Ok(Some(next)),
@@ -226,7 +229,7 @@ pub fn link_row<'a>(
         Op::Or | Op::And => both_logical_or_bits(place, left, right),
         Op::Plus | Op::Minus | Op::Times | Op::Div | Op::Rem => both_integer(place, left, right),
         Op::Shl | Op::Shr => bits_by_integer(place, left, right),
-        Op::Slash | Op::Power => fault(place, 34),
+        Op::Slash | Op::Power => fault(place, Diagnostic::OPERATOR_DOES_NOT_FIT),
     }
 }
 
@@ -238,7 +241,7 @@ fn both_logical_or_bits<'a>(place: Place, left: ValueType<'a>, right: ValueType<
         (ValueType::Logical, ValueType::Logical) | (ValueType::Bits, ValueType::Bits) => {
             Ok(PhraseType::Value(left))
         }
-        _ => fault(place, 34),
+        _ => fault(place, Diagnostic::OPERATOR_DOES_NOT_FIT),
     }
 }
 
@@ -248,7 +251,7 @@ fn both_integer<'a>(place: Place, left: ValueType<'a>, right: ValueType<'a>) -> 
 {
     match (left, right) {
         (ValueType::Integer, ValueType::Integer) => Ok(PhraseType::Value(ValueType::Integer)),
-        _ => fault(place, 34),
+        _ => fault(place, Diagnostic::OPERATOR_DOES_NOT_FIT),
     }
 }
 
@@ -258,7 +261,7 @@ fn bits_by_integer<'a>(place: Place, left: ValueType<'a>, right: ValueType<'a>) 
 {
     match (left, right) {
         (ValueType::Bits, ValueType::Integer) => Ok(PhraseType::Value(ValueType::Bits)),
-        _ => fault(place, 34),
+        _ => fault(place, Diagnostic::OPERATOR_DOES_NOT_FIT),
     }
 }
 
@@ -268,7 +271,7 @@ pub fn negated_row<'a>(place: Place, operand: PhraseType<'a>) -> Verdict<'a>
 {
     match value(place, operand)? {
         ValueType::Logical | ValueType::Bits => Ok(operand),
-        _ => fault(place, 34),
+        _ => fault(place, Diagnostic::OPERATOR_DOES_NOT_FIT),
     }
 }
 
@@ -278,7 +281,7 @@ pub fn integer_row<'a>(place: Place, operand: PhraseType<'a>) -> Verdict<'a>
 {
     match value(place, operand)? {
         ValueType::Integer => Ok(operand),
-        _ => fault(place, 34),
+        _ => fault(place, Diagnostic::OPERATOR_DOES_NOT_FIT),
     }
 }
 
@@ -302,7 +305,7 @@ pub fn relation_row<'a>(
     if fits {
         Ok(PhraseType::Value(ValueType::Logical))
     } else {
-        fault(place, 34)
+        fault(place, Diagnostic::OPERATOR_DOES_NOT_FIT)
     }
 }
 
@@ -336,7 +339,7 @@ pub fn is_row<'a>(place: Place, operand: PhraseType<'a>) -> Verdict<'a>
 {
     match value(place, operand)? {
         ValueType::Reference(_) => Ok(PhraseType::Value(ValueType::Logical)),
-        _ => fault(place, 34),
+        _ => fault(place, Diagnostic::OPERATOR_DOES_NOT_FIT),
     }
 }
 
@@ -347,11 +350,12 @@ pub fn assign_row<'a>(
     target: PhraseType<'a>,
     assigned: PhraseType<'a>,
 ) -> Verdict<'a>
-    ensures { verdict result ≡ assign_row place (left_view left) (phrase_type target.entry) (phrase_type assigned.entry) }
+    ensures { verdict result ≡ assign_row place
+        (left_view left) (phrase_type target.entry) (phrase_type assigned.entry) }
 {
     match left {
-        Left::Control => return fault(place, 43),
-        Left::NoVariable => return fault(place, 38),
+        Left::Control => return fault(place, Diagnostic::CONTROL_NAME_ASSIGNED),
+        Left::NoVariable => return fault(place, Diagnostic::NOT_A_VARIABLE),
         Left::Variable => {}
     }
     let assigned = value(place, assigned)?;
@@ -359,6 +363,6 @@ pub fn assign_row<'a>(
     if assigned.fits(target) {
         Ok(PhraseType::Statement)
     } else {
-        fault(place, 37)
+        fault(place, Diagnostic::TYPE_DOES_NOT_FIT)
     }
 }

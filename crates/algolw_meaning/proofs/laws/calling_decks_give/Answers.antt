@@ -2,7 +2,7 @@ use Rattle.std.specs.Prelude.{refl}
 use Rattle.std.specs.Fmt.{digits}
 use Rattle.algolw_meaning.specs.DeckDiagnostics.{deck_of}
 use Rattle.algolw_meaning.specs.RunRows.{AllGive}
-use Rattle.algolw_meaning.specs.CallingDecks.{CallingDecksGive, modes_decks, assigning_back_decks, names_decks, procedure_formals_decks, fitting_decks, recursion_decks, step_limits_decks, other_limits_decks, array_cells_decks, cells_decks, held_cells_decks, depth_decks, deep_actual_decks, dumps_decks}
+use Rattle.algolw_meaning.specs.CallingDecks.{modes_decks, assigning_back_decks, names_decks, procedure_formals_decks, fitting_decks, recursion_decks, step_limits_decks, other_limits_decks, array_cells_decks, cells_decks, held_cells_decks, depth_decks, deep_actual_decks, dumps_decks}
 use Rattle.algolw_meaning.proofs.laws.calling_decks_give.Goals as goal
 
 modes_give : AllGive modes_decks

@@ -2,7 +2,7 @@ use Rattle.std.specs.Prelude.{refl}
 use Rattle.std.specs.Fmt.{digits}
 use Rattle.algolw_meaning.specs.DeckDiagnostics.{deck_of}
 use Rattle.algolw_meaning.specs.RunRows.{AllGive}
-use Rattle.algolw_meaning.specs.RunningDecks.{DecksGive, output_decks, integers_decks, truth_and_bits_decks, strings_decks, string_parts_decks, assignments_decks, order_decks, choices_decks, blocks_decks, loops_decks, loop_faults_decks, jumps_decks, arrays_decks, records_decks, data_cards_decks, targets_decks}
+use Rattle.algolw_meaning.specs.RunningDecks.{output_decks, integers_decks, truth_and_bits_decks, strings_decks, string_parts_decks, assignments_decks, order_decks, choices_decks, blocks_decks, loops_decks, loop_faults_decks, jumps_decks, arrays_decks, records_decks, data_cards_decks, targets_decks}
 use Rattle.algolw_meaning.proofs.laws.decks_give.Goals as goal
 
 output_give : AllGive output_decks

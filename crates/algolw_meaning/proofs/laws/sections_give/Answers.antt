@@ -3,11 +3,11 @@ use Rattle.std.specs.Fmt.{digits}
 use Rattle.value_ops.specs.Diagnostics.{diagnostic_texts}
 use Rattle.algolw_meaning.specs.DeckDiagnostics.{deck_of, deck_diagnostics}
 use Rattle.algolw_meaning.specs.SectionDecks.{SectionsGive}
-use Rattle.algolw_meaning.specs.Texts.{place_text, diagnostic_head}
+use Rattle.algolw_meaning.specs.Texts.{diagnostic_head}
 use Rattle.algolw_meaning.proofs.laws.sections_give.Goals as goal
 
 sections : SectionsGive
-unfolding deck_of deck_diagnostics place_text diagnostic_head diagnostic_texts digits
+unfolding deck_of deck_diagnostics diagnostic_head diagnostic_texts digits
 sections = record { sum = refl; narrow = refl; fault = refl; limit = refl; diagnosed = refl }
 
 pub returns : goal.returns

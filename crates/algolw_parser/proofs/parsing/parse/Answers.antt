@@ -11,13 +11,13 @@ pub bad-requires-in-Err-TooDeep : goal.bad-requires-in-Err-TooDeep
 bad-requires-in-Err-TooDeep c = some_too_deep c.args.tokens.now c.in-Err-TooDeep.place _ _ c.requires c.in-Err-TooDeep.place-is c.in-Err-TooDeep.field-0-is c.in-Err-TooDeep.ensures
 
 pub returns-in-Ok-clause-reads : goal.returns-in-Ok-clause-reads
-returns-in-Ok-clause-reads c = reads_program c.args.tokens.now (tree c.in-Ok.program) c.program.new.self.rest.now c.in-Ok.ensures (sym c.is_empty.ensures ∙ c.if-is_empty.true)
+returns-in-Ok-clause-reads c = reads_program c.args.tokens.now (tree c.in-Ok.program) c.program.new.parser.rest.now c.in-Ok.ensures (sym c.is_empty.ensures ∙ c.if-is_empty.true)
 
 pub returns-in-Ok-clause-means : goal.returns-in-Ok-clause-means
 returns-in-Ok-clause-means c = means_read c.args.tokens.now (Tree c.in-Ok.program) c.requires (returns-in-Ok-clause-reads c)
 
 pub returns-in-Ok-2-clause-reads : goal.returns-in-Ok-2-clause-reads
-returns-in-Ok-2-clause-reads c = reads_more c.args.tokens.now (tree c.in-Ok.program) c.program.new.self.rest.now c.place.result c.bad.result c.in-Ok.ensures (sym c.is_empty.ensures ∙ c.if-is_empty.false) c.place.ensures c.bad.ensures
+returns-in-Ok-2-clause-reads c = reads_more c.args.tokens.now (tree c.in-Ok.program) c.program.new.parser.rest.now c.place.result c.bad.result c.in-Ok.ensures (sym c.is_empty.ensures ∙ c.if-is_empty.false) c.place.ensures c.bad.ensures
 
 pub returns-in-Ok-2-clause-means : goal.returns-in-Ok-2-clause-means
 returns-in-Ok-2-clause-means c = means_read c.args.tokens.now c.bad.result c.requires (returns-in-Ok-2-clause-reads c)

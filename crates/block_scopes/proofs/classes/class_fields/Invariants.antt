@@ -2,7 +2,7 @@ use Rattle.std.proofs.Common.{◌≡◌, ◌++◌, drop, map}
 use Rattle.algolw_tree.specs.View.{spec_tree}
 use Rattle.algolw_typing.specs.Naming.{class_fields}
 use Rattle.block_scopes.specs.ClassView.{field_view}
-use Rattle.block_scopes.specs.Paths.{path_view}
+use Rattle.name_scopes.specs.Paths.{path_view}
 use Rattle.block_scopes.proofs.classes.class_fields.Given as goal
 
 -- what is added and what is left are all

@@ -1,7 +1,7 @@
 use Rattle.std.proofs.Common.{◌≤◌, List, length, ◌∙◌, subst}
 use Rattle.typing_rules.proofs.NamedClasses.{all_found}
 use Rattle.algolw_tree.specs.Tree.{Placed}
-use Rattle.block_scopes.specs.Paths.{path_view}
+use Rattle.name_scopes.specs.Paths.{path_view}
 use Rattle.block_scopes.proofs.classes.class_set.Goals as goal
 
 pub returns : goal.returns

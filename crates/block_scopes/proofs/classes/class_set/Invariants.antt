@@ -1,6 +1,6 @@
 use Rattle.std.proofs.Common.{◌≡◌, ◌++◌, drop}
 use Rattle.typing_rules.proofs.NamedClasses.{declared_classes}
-use Rattle.block_scopes.specs.Paths.{path_view}
+use Rattle.name_scopes.specs.Paths.{path_view}
 use Rattle.block_scopes.proofs.classes.class_set.Given as goal
 
 -- what is found and what is left are all

@@ -1,5 +1,5 @@
 use Rattle.std.proofs.Common.{◌≡◌, sym, rules}
-use Rattle.block_scopes.proofs.Firsts.{none_there}
+use Rattle.name_scopes.proofs.Firsts.{none_there}
 use Rattle.block_scopes.proofs.NameNumbers.{numbers-kept, numbers-new}
 use Rattle.block_scopes.proofs.numbers.numbers_by_place.Goals as goal
 

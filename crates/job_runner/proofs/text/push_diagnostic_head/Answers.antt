@@ -1,6 +1,7 @@
 use Rattle.std.proofs.Common.{◌++◌, ◌∙◌, ap}
 use Rattle.std.specs.Prelude.{codes, decimal}
-use Rattle.algolw_meaning.specs.Texts.{place_text, diagnostic_head}
+use Rattle.post_mortem.specs.Dump.{place_text}
+use Rattle.algolw_meaning.specs.Texts.{diagnostic_head}
 use Rattle.job_runner.proofs.Appends.{on_ok, four}
 use Rattle.job_runner.proofs.text.push_diagnostic_head.Goals as goal
 

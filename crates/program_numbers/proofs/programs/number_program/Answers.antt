@@ -1,4 +1,4 @@
-use Rattle.std.proofs.Common.{◌≡◌, map, refl, sym, ap, subst, ◌∙◌}
+use Rattle.std.proofs.Common.{map, refl, sym, ap, subst, ◌∙◌}
 use Rattle.algolw_typing.specs.Known.{AllHad, Knows, ClassesKnow}
 use Rattle.algolw_typing.specs.Programs.{statements}
 use Rattle.typed_drafts.specs.DraftView.{draft_view}

@@ -46,49 +46,49 @@ add_decls-add_decl-requires t c =
     search rules
 
 pub add_kind-add_lists-requires : goal.add_kind-add_lists-requires
-add_kind-add_lists-requires t c = search (rules, ap size_kind (named_at _ _ c.in-Named.lists _ c.in-Named.is c.deref.ensures.value))
+add_kind-add_lists-requires t c = search (rules, ap size_kind (named_at _ _ c.in-Named.lists c.in-Named.is))
 
 pub add_kind-returns-in-Named : goal.add_kind-returns-in-Named
-add_kind-returns-in-Named t c = by_part kind_statements c.add_lists.result c.args.places.now.items c.add_lists.new.places.items _ _ (named_at _ _ c.in-Named.lists _ c.in-Named.is c.deref.ensures.value) c.add_lists.ensures
+add_kind-returns-in-Named t c = by_part kind_statements c.add_lists.result c.args.places.now.items c.add_lists.new.places.items _ _ (named_at _ _ c.in-Named.lists c.in-Named.is) c.add_lists.ensures
 
 pub add_kind-add_chain-requires : goal.add_kind-add_chain-requires
-add_kind-add_chain-requires t c = search (rules, ap size_kind (chain_at _ c.in-Chain.first c.in-Chain.links _ _ c.in-Chain.is c.deref-in-Chain.ensures c.deref-in-Chain-2.ensures.value))
+add_kind-add_chain-requires t c = search (rules, ap size_kind (chain_at _ c.in-Chain.first c.in-Chain.links c.in-Chain.is))
 
 pub add_kind-returns-in-Chain : goal.add_kind-returns-in-Chain
-add_kind-returns-in-Chain t c = by_part kind_statements c.add_chain.result c.args.places.now.items c.add_chain.new.places.items _ _ (chain_at _ c.in-Chain.first c.in-Chain.links _ _ c.in-Chain.is c.deref-in-Chain.ensures c.deref-in-Chain-2.ensures.value) c.add_chain.ensures
+add_kind-returns-in-Chain t c = by_part kind_statements c.add_chain.result c.args.places.now.items c.add_chain.new.places.items _ _ (chain_at _ c.in-Chain.first c.in-Chain.links c.in-Chain.is) c.add_chain.ensures
 
 pub add_kind-add_selection-requires : goal.add_kind-add_selection-requires
-add_kind-add_selection-requires t c = search (rules, ap size_kind (case_value_at _ c.in-CaseValue.subject c.in-CaseValue.values _ _ c.in-CaseValue.is c.deref-in-CaseValue.ensures c.deref-in-CaseValue-2.ensures.value))
+add_kind-add_selection-requires t c = search (rules, ap size_kind (case_value_at _ c.in-CaseValue.subject c.in-CaseValue.values c.in-CaseValue.is))
 
 pub add_kind-returns-in-CaseValue : goal.add_kind-returns-in-CaseValue
-add_kind-returns-in-CaseValue t c = by_part kind_statements c.add_selection.result c.args.places.now.items c.add_selection.new.places.items _ _ (case_value_at _ c.in-CaseValue.subject c.in-CaseValue.values _ _ c.in-CaseValue.is c.deref-in-CaseValue.ensures c.deref-in-CaseValue-2.ensures.value) c.add_selection.ensures
+add_kind-returns-in-CaseValue t c = by_part kind_statements c.add_selection.result c.args.places.now.items c.add_selection.new.places.items _ _ (case_value_at _ c.in-CaseValue.subject c.in-CaseValue.values c.in-CaseValue.is) c.add_selection.ensures
 
 pub add_kind-add_selection-requires-in-CaseDo : goal.add_kind-add_selection-requires-in-CaseDo
-add_kind-add_selection-requires-in-CaseDo t c = search (rules, ap size_kind (case_do_at _ c.in-CaseDo.subject c.in-CaseDo.parts _ _ c.in-CaseDo.is c.deref-in-CaseDo.ensures c.deref-in-CaseDo-2.ensures.value))
+add_kind-add_selection-requires-in-CaseDo t c = search (rules, ap size_kind (case_do_at _ c.in-CaseDo.subject c.in-CaseDo.parts c.in-CaseDo.is))
 
 pub add_kind-returns-in-CaseDo : goal.add_kind-returns-in-CaseDo
-add_kind-returns-in-CaseDo t c = by_part kind_statements c.add_selection-in-CaseDo.result c.args.places.now.items c.add_selection-in-CaseDo.new.places.items _ _ (case_do_at _ c.in-CaseDo.subject c.in-CaseDo.parts _ _ c.in-CaseDo.is c.deref-in-CaseDo.ensures c.deref-in-CaseDo-2.ensures.value) c.add_selection-in-CaseDo.ensures
+add_kind-returns-in-CaseDo t c = by_part kind_statements c.add_selection-in-CaseDo.result c.args.places.now.items c.add_selection-in-CaseDo.new.places.items _ _ (case_do_at _ c.in-CaseDo.subject c.in-CaseDo.parts c.in-CaseDo.is) c.add_selection-in-CaseDo.ensures
 
 pub add_kind-add_listed-requires : goal.add_kind-add_listed-requires
-add_kind-add_listed-requires t c = search (rules, ap size_kind (for_list_at _ c.in-ForList.field-0 c.in-ForList.values c.in-ForList.body _ _ c.in-ForList.is c.deref-in-ForList.ensures.value c.deref-in-ForList-2.ensures))
+add_kind-add_listed-requires t c = search (rules, ap size_kind (for_list_at _ c.in-ForList.field-0 c.in-ForList.values c.in-ForList.body c.in-ForList.is))
 
 pub add_kind-returns-in-ForList : goal.add_kind-returns-in-ForList
-add_kind-returns-in-ForList t c = by_part kind_statements c.add_listed.result c.args.places.now.items c.add_listed.new.places.items _ _ (for_list_at _ c.in-ForList.field-0 c.in-ForList.values c.in-ForList.body _ _ c.in-ForList.is c.deref-in-ForList.ensures.value c.deref-in-ForList-2.ensures) c.add_listed.ensures
+add_kind-returns-in-ForList t c = by_part kind_statements c.add_listed.result c.args.places.now.items c.add_listed.new.places.items _ _ (for_list_at _ c.in-ForList.field-0 c.in-ForList.values c.in-ForList.body c.in-ForList.is) c.add_listed.ensures
 
 pub add_kind-add_block-requires : goal.add_kind-add_block-requires
-add_kind-add_block-requires t c = search (rules, ap size_kind (block_at _ c.in-Block.decls c.in-Block.items _ _ c.in-Block.is c.deref-in-Block.ensures.value c.deref-in-Block-2.ensures.value))
+add_kind-add_block-requires t c = search (rules, ap size_kind (block_at _ c.in-Block.decls c.in-Block.items c.in-Block.is))
 
 pub add_kind-returns-in-Block : goal.add_kind-returns-in-Block
-add_kind-returns-in-Block t c = by_part kind_statements c.add_block.result c.args.places.now.items c.add_block.new.places.items _ _ (block_at _ c.in-Block.decls c.in-Block.items _ _ c.in-Block.is c.deref-in-Block.ensures.value c.deref-in-Block-2.ensures.value) c.add_block.ensures
+add_kind-returns-in-Block t c = by_part kind_statements c.add_block.result c.args.places.now.items c.add_block.new.places.items _ _ (block_at _ c.in-Block.decls c.in-Block.items c.in-Block.is) c.add_block.ensures
 
 pub add_list-add_actuals-requires : goal.add_list-add_actuals-requires
-add_list-add_actuals-requires t c = search (rules, ap size_listing (actuals_at c.args.list.now.place _ c.in-Actuals.actuals _ c.in-Actuals.is c.deref.ensures.value))
+add_list-add_actuals-requires t c = search (rules, ap size_listing (actuals_at c.args.list.now.place _ c.in-Actuals.actuals c.in-Actuals.is))
 
 pub add_list-returns-in-Actuals : goal.add_list-returns-in-Actuals
-add_list-returns-in-Actuals t c = by_part listing_statements c.add_actuals.result c.args.places.now.items c.add_actuals.new.places.items _ _ (actuals_at c.args.list.now.place _ c.in-Actuals.actuals _ c.in-Actuals.is c.deref.ensures.value) c.add_actuals.ensures
+add_list-returns-in-Actuals t c = by_part listing_statements c.add_actuals.result c.args.places.now.items c.add_actuals.new.places.items _ _ (actuals_at c.args.list.now.place _ c.in-Actuals.actuals c.in-Actuals.is) c.add_actuals.ensures
 
 pub add_decl-add_bounds-requires : goal.add_decl-add_bounds-requires
-add_decl-add_bounds-requires t c = search (rules, ap size_decl (array_at _ c.in-Array.field-0 c.in-Array.field-1 c.in-Array.bounds _ c.in-Array.is c.deref.ensures.value))
+add_decl-add_bounds-requires t c = search (rules, ap size_decl (array_at _ c.in-Array.field-0 c.in-Array.field-1 c.in-Array.bounds c.in-Array.is))
 
 pub add_decl-returns-in-Array : goal.add_decl-returns-in-Array
-add_decl-returns-in-Array t c = by_part decl_statements c.add_bounds.result c.args.places.now.items c.add_bounds.new.places.items _ _ (array_at _ c.in-Array.field-0 c.in-Array.field-1 c.in-Array.bounds _ c.in-Array.is c.deref.ensures.value) c.add_bounds.ensures
+add_decl-returns-in-Array t c = by_part decl_statements c.add_bounds.result c.args.places.now.items c.add_bounds.new.places.items _ _ (array_at _ c.in-Array.field-0 c.in-Array.field-1 c.in-Array.bounds c.in-Array.is) c.add_bounds.ensures

@@ -21,13 +21,13 @@ abbrev pub decreases-add_chain : goal.decreases-add_chain
 decreases-add_chain l = suc (size (draft_view l.first.now) + size_links (links_onto (map link_view l.links.now) typed.no_links))
 
 abbrev pub decreases-add_conditional : goal.decreases-add_conditional
-decreases-add_conditional l = suc (size (draft_view l.condition.now) + size (draft_view l.then.now) + size_perhaps (perhaps_of l.otherwise.now))
+decreases-add_conditional l = suc (size (draft_view l.condition.now) + size (draft_view l.then.now) + size_perhaps (perhaps_of l.otherwise))
 
 abbrev pub decreases-add_selection : goal.decreases-add_selection
 decreases-add_selection l = suc (size (draft_view l.subject.now) + size_nodes (nodes_onto (map draft_view l.parts.now) typed.no_nodes))
 
 abbrev pub decreases-add_stepped : goal.decreases-add_stepped
-decreases-add_stepped l = suc (size (draft_view l.start.now) + size_perhaps (perhaps_of l.step.now) + size (draft_view l.limit.now) + size (draft_view l.body.now))
+decreases-add_stepped l = suc (size (draft_view l.start.now) + size_perhaps (perhaps_of l.step) + size (draft_view l.limit.now) + size (draft_view l.body.now))
 
 abbrev pub decreases-add_listed : goal.decreases-add_listed
 decreases-add_listed l = suc (size_nodes (nodes_onto (map draft_view l.values.now) typed.no_nodes) + size (draft_view l.body.now))
@@ -36,7 +36,7 @@ abbrev pub decreases-add_block : goal.decreases-add_block
 decreases-add_block l = suc (size_decls (decls_onto (map decl_view l.decls.now) typed.no_decls) + size_items (items_onto (map item_view l.items.now) typed.no_items))
 
 abbrev pub decreases-add_perhaps : goal.decreases-add_perhaps
-decreases-add_perhaps l = size_perhaps (perhaps_of l.draft.now)
+decreases-add_perhaps l = size_perhaps (perhaps_of l.draft)
 
 abbrev pub decreases-add_list : goal.decreases-add_list
 decreases-add_list l = size_listing (list_view l.list.now)

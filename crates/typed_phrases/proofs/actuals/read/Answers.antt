@@ -16,8 +16,10 @@ returns-in-None c =
     let o = found_view c.args.found in
     let w = view.wanted c.args.wanted in
     let none : length c.in-Named.lists.items ≡ 0 = search rules in
-    c.name_given.ensures ∙ ap (λ (m : Option Meaning). name_given w m o) (c.meaning_of-means.ensures c.in-Named.name ∙ ap meaning_of c.declared.ensures)
-    ∙ sym (read_name (path_view c.args.path.now) w c.args.phrase.now.place c.args.phrase.now.first c.args.phrase.now.kind c.in-Named.name c.in-Named.lists o c.in-Named.is none)
+    subst (λ (p : PartOut). IfOk c.name_given.result (λ g. given_out g ≡ p))
+    (ap (λ (m : Option Meaning). name_given w m o) (c.meaning_of-means.ensures c.in-Named.name ∙ ap meaning_of c.declared.ensures)
+    ∙ sym (read_name (path_view c.args.path.now) w c.args.phrase.now.place c.args.phrase.now.first c.args.phrase.now.kind c.in-Named.name c.in-Named.lists o c.in-Named.is none))
+    c.name_given.ensures
 
 pub returns-in-Some : goal.returns-in-Some
 returns-in-Some c =

@@ -5,12 +5,12 @@ use Rattle.algolw_typing.specs.Scopes.{Known, class_fault}
 use Rattle.algolw_typing.specs.Typing.{class_stated, meaning_of}
 use Rattle.algolw_typing.specs.Verdicts.{part, type_of}
 use Rattle.typing_rules.specs.View as view
-use Rattle.typed_phrases.proofs.Founds.{made_at}
+use Rattle.typed_phrases.proofs.Founds.{made_as}
 use Rattle.typed_phrases.proofs.statements.is_class.Goals as goal
 
 pub returns : goal.returns
 returns c =
-    made_at c.made.result c.args.spot.place c.args.spot.first _ _ _ _
+    made_as c.made.result c.args.spot.place c.args.spot.first _ _ _ _
     (c.is_verdict-verdict.ensures (c.args.name.now, c.args.place)
     ∙ ap (λ (e : Option (Entry Known)). class_stated (class_fault (c.args.name.now, c.args.place) e) (meaning_of e) (part (type_of (view.verdict c.args.operand.verdict)) (is_row c.args.spot.place))) c.declared-class.ensures)
     (search (rules, c.place_of.ensures c.args.name.now, c.declared-class.ensures)) c.made.ensures

@@ -3,7 +3,7 @@ use Rattle.algolw_tree.specs.Grammar.{phrases_of, links_of, lists_of, actuals_of
 use Rattle.algolw_tree.specs.View.{tree, link_tree, list_tree, actual_tree, item_tree, decl_tree, bound_tree, spec_tree, optional_tree}
 use Rattle.algolw_typing.specs.Naming.{phrases_naming, links_naming, lists_naming, actuals_naming, items_naming, bounds_naming, decls_naming, spec_uses}
 use Rattle.block_scopes.specs.Adding.{frame_view}
-use Rattle.block_scopes.specs.Paths.{path_view}
+use Rattle.name_scopes.specs.Paths.{path_view}
 use Rattle.std.proofs.lemmas.Result.{on_ok_weaker}
 use Rattle.block_scopes.proofs.Added.{finish, adds_and}
 use Rattle.block_scopes.proofs.Arms.{by_naming, by_kind, by_listing, by_decl, controlled, for_step_naming, for_list_naming, range_inside}

@@ -3,7 +3,7 @@ use Rattle.algolw_tree.specs.Grammar.{phrases_of, links_of, lists_of, actuals_of
 use Rattle.algolw_tree.specs.View.{tree, link_tree, list_tree, actual_tree, item_tree, decl_tree, bound_tree, procedure_tree, optional_tree}
 use Rattle.algolw_typing.specs.Naming.{phrases_naming, links_naming, lists_naming, actuals_naming, items_naming, bounds_naming, decls_naming}
 use Rattle.block_scopes.specs.Adding.{frame_view}
-use Rattle.block_scopes.specs.Paths.{path_view}
+use Rattle.name_scopes.specs.Paths.{path_view}
 use Rattle.block_scopes.proofs.Added.{Left}
 use Rattle.algolw_tree.proofs.Sizes.{size, size_perhaps, size_phrases, size_links, size_lists, size_listing, size_actuals, size_actual, size_items, size_bounds, size_decls, size_decl}
 use Rattle.block_scopes.proofs.resolver.Resolver.+phrases.Given as goal

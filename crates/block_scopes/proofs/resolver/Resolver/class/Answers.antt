@@ -6,7 +6,7 @@ use Rattle.algolw_tree.specs.declared.phrases.TypeSpec.{TypeSpec}
 use Rattle.algolw_tree.specs.View.{spec_tree, class_tree}
 use Rattle.algolw_typing.specs.Naming.{Class, class_fields, group_uses}
 use Rattle.block_scopes.specs.Adding.{Adds}
-use Rattle.block_scopes.specs.Paths.{path_view}
+use Rattle.name_scopes.specs.Paths.{path_view}
 use Rattle.block_scopes.proofs.ClassAdded.{class_more}
 use Rattle.block_scopes.proofs.resolver.Resolver.class.Goals as goal
 

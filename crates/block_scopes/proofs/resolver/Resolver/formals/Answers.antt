@@ -2,7 +2,7 @@ use Rattle.std.proofs.Common.{map, refl}
 use Rattle.std.specs.Option.{option_map}
 use Rattle.algolw_tree.specs.View.{spec_tree, formal_tree}
 use Rattle.algolw_typing.specs.Naming.{formal_uses, result_uses}
-use Rattle.block_scopes.specs.Paths.{path_view}
+use Rattle.name_scopes.specs.Paths.{path_view}
 use Rattle.block_scopes.proofs.Added.{turn, finish}
 use Rattle.block_scopes.proofs.resolver.Resolver.formals.Goals as goal
 

@@ -1,7 +1,7 @@
 use Rattle.std.proofs.Common.{drop, map}
 use Rattle.algolw_tree.specs.View.{formal_tree}
 use Rattle.algolw_typing.specs.Naming.{formal_uses}
-use Rattle.block_scopes.specs.Paths.{path_view}
+use Rattle.name_scopes.specs.Paths.{path_view}
 use Rattle.block_scopes.proofs.Added.{Left}
 use Rattle.block_scopes.proofs.resolver.Resolver.formals.Given as goal
 

@@ -1,7 +1,7 @@
 use Rattle.std.proofs.Common.{map, refl}
 use Rattle.algolw_tree.specs.View.{spec_tree}
 use Rattle.algolw_typing.specs.Naming.{group_uses, spec_uses}
-use Rattle.block_scopes.specs.Paths.{path_view}
+use Rattle.name_scopes.specs.Paths.{path_view}
 use Rattle.block_scopes.proofs.Added.{turn, finish}
 use Rattle.block_scopes.proofs.resolver.Resolver.groups.Goals as goal
 

@@ -1,6 +1,6 @@
 use Rattle.std.proofs.Common.{refl}
 use Rattle.algolw_typing.specs.Naming.{uses_of, use_at}
-use Rattle.block_scopes.specs.Paths.{path_view}
+use Rattle.name_scopes.specs.Paths.{path_view}
 use Rattle.block_scopes.proofs.Added.{turn, finish}
 use Rattle.block_scopes.proofs.resolver.Resolver.use_names.Goals as goal
 

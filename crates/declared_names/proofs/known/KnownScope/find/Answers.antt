@@ -1,6 +1,6 @@
 use Rattle.std.proofs.Common.{◌≡◌, ◌<◌, length, ap, ◌∙◌, sym, rules}
 use Rattle.algolw_typing.specs.Names.{in_scope}
-use Rattle.block_scopes.proofs.Firsts.{first_stands}
+use Rattle.name_scopes.proofs.Firsts.{first_stands}
 use Rattle.declared_names.proofs.Knowing.{Entries, absent, found}
 use Rattle.declared_names.proofs.known.KnownScope.find.Goals as goal
 

@@ -1,6 +1,6 @@
-use Rattle.std.proofs.Common.{◌≡◌, ◌+◌, ◌∷◌, ◌++◌, suc, Option, IfOk, length, map, refl, sym, ap, subst, ◌∙◌, rules}
+use Rattle.std.proofs.Common.{◌≡◌, ◌+◌, ◌∷◌, ◌++◌, suc, List, IfOk, length, map, refl, sym, ap, subst, ◌∙◌, rules}
 use Rattle.std.proofs.lemmas.Result.{IfOk-weaker}
-use Rattle.std.specs.Option.{option_map, option_to_list}
+use Rattle.std.specs.Option.{option_map}
 use Rattle.algolw_tree.specs.declared.phrases.Phrase.{Phrase}
 use Rattle.algolw_tree.specs.declared.phrases.ProcDecl.{out-ProcDecl}
 use Rattle.algolw_tree.specs.Grammar.{phrases_of, links_of, lists_of, actuals_of, items_of, decls_of, bounds_of}
@@ -9,19 +9,19 @@ use Rattle.algolw_tree.specs.View.{tree as tree_of, link_tree, list_tree, actual
 use Rattle.algolw_typing.specs.Names.{Scope}
 use Rattle.algolw_typing.specs.Scopes.{Known, formal_scope}
 use Rattle.algolw_typing.specs.Typing as rules_of
-use Rattle.algolw_typing.specs.Typing.{DeclOut, typed_bounds, typed_decl}
+use Rattle.algolw_typing.specs.Typing.{DeclOut, typed_bounds, typed_decl, typed_decls}
 use Rattle.typing_rules.specs.MeaningView.{reading, wanted}
 use Rattle.typing_rules.specs.View as view
 use Rattle.typed_drafts.specs.declared.drafts.DraftDecl.{DraftDecl}
 use Rattle.declared_names.specs.Blocks.{DeclFound, bounds_view}
 use Rattle.typed_phrases.specs.FrontViews.{front_view}
 use Rattle.declared_names.specs.KnownPaths.{path_view}
-use Rattle.declared_names.specs.declared.blocks.Bounds.{Bounds}
 use Rattle.typed_phrases.specs.declared.making.Typed.{Typed}
+use Rattle.phrase_checker.specs.Checked.{DeclsChecked}
 use Rattle.phrase_checker.proofs.BlockFound.{block_found, procedure_found}
-use Rattle.phrase_checker.proofs.BlockSteps.{bounds_step, meanings_step, kept_step, decls_turn, decls_end, fewer, items_step, last_item}
+use Rattle.phrase_checker.proofs.BlockSteps.{bounds_step, meanings_step, kept_step, decls_step, decls_end, own_bounds, items_step, last_item}
 use Rattle.declared_names.proofs.Bounding.{array_found, bounds_kept, procedure_is}
-use Rattle.phrase_checker.proofs.ForSteps.{until_checked, step_checked, list_checked}
+use Rattle.phrase_checker.proofs.ForSteps.{range_checked, list_checked}
 use Rattle.phrase_checker.proofs.ListSteps as lists
 use Rattle.algolw_tree.proofs.Rows.{named_at, chain_at, case_value_at, case_do_at, for_list_at, block_at, actuals_at, array_at}
 use Rattle.algolw_tree.proofs.Sizes.{size, size_kind, size_phrases, size_links, size_lists, size_listing, size_actuals, size_actual, size_items, size_bounds, size_decls, size_decl, item_smaller}
@@ -104,7 +104,7 @@ meanings-decl_bounds-requires t c =
 
 pub decls-decl-requires : goal.decls-decl-requires
 decls-decl-requires t c =
-    let h = item_smaller (λ xs. size_decls (decls_of (map decl_tree xs))) (λ x. size_decl (decl_tree x)) (λ x xs. refl) c.args.decls.now c.loop-decl.decl-index c.decl-item.result c.loop-decl-test.true c.decl-item.is in
+    let h = item_smaller (λ xs. size_decls (decls_of (map decl_tree xs))) (λ x. size_decl (decl_tree x)) (λ x xs. refl) c.args.decls.now c.loop-position.position c.index-decls-position.result c.loop-position-test.true c.index-decls-position.is in
     search rules
 
 pub bounds-bound-requires : goal.bounds-bound-requires
@@ -117,13 +117,18 @@ items-item-requires t c =
     let h = item_smaller (λ xs. size_items (items_of (map item_tree xs))) (λ x. size (tree_of x.phrase)) (λ x xs. refl) c.args.items.now c.loop-position.position c.index-items-position.result c.loop-position-test.true c.index-items-position.is in
     search rules
 
-pub for_until-returns : goal.for_until-returns
-for_until-returns t c =
-    until_checked c.for_until.result c.args.spot.place c.args.spot.first c.args.self.now c.phrase.new.self c.phrase-2.new.self c.controlled.new.self c.in_ok-start.start c.in_ok-limit.limit c.in_ok-body.body _ _ _ c.in_ok-start.ensures c.in_ok-limit.ensures c.in_ok-body.ensures c.for_until.ensures
+pub range-returns : goal.range-returns
+range-returns t c = record {
+  behind_start = c.phrase.new.self;
+  behind_step = c.step.new.self;
+  start = c.in_ok-start.ensures;
+  step = c.in_ok-step.ensures;
+  limit = c.in_ok-limit.ensures;
+}
 
-pub for_step-returns : goal.for_step-returns
-for_step-returns t c =
-    step_checked c.for_step.result c.args.spot.place c.args.spot.first c.args.self.now c.phrase.new.self c.phrase-2.new.self c.phrase-3.new.self c.controlled.new.self c.in_ok-start.start c.in_ok-step.step c.in_ok-limit.limit c.in_ok-body.body _ _ _ _ c.in_ok-start.ensures c.in_ok-step.ensures c.in_ok-limit.ensures c.in_ok-body.ensures c.for_step.ensures
+pub for_range-returns : goal.for_range-returns
+for_range-returns t c =
+    range_checked c.for_range.result (path_view c.args.path.now) c.args.spot.place c.args.spot.first c.args.name.now c.args.self.now c.range.new.self c.controlled.new.self c.in_ok-range.range c.in_ok-body.body _ _ _ _ c.in_ok-range.ensures c.in_ok-body.ensures c.for_range.ensures
 
 pub for_list-returns : goal.for_list-returns
 for_list-returns t c = list_checked c.for_list.result c.args.spot.place c.args.spot.first c.args.self.now c.phrases.new.self c.controlled.new.self c.in_ok-values.values c.in_ok-body.body _ _ c.in_ok-values.ensures c.in_ok-body.ensures c.for_list.ensures
@@ -160,9 +165,11 @@ pub block-returns : goal.block-returns
 block-returns t c =
     let path = path_view c.args.path.now in
     let decls = decls_of (map decl_tree c.args.decls.now) in
-    block_found path c.args.spot.place c.args.spot.first c.args.self.now c.meanings.new.self c.decls.new.self c.items.new.self c.twice.new.faults.items c.in_ok-names.names c.meanings.new.scope c.declare_labels.new.scope decls (items_of (map item_tree c.args.items.now)) c.in_ok-decls.decls c.in_ok-items.items c.block.result
+    IfOk-weaker c.block.result _ _
+    (λ (u : Typed) h. block_found path c.args.spot.place c.args.spot.first c.args.self.now c.meanings.new.self c.decls.new.self c.items.new.self c.twice.new.faults.items c.in_ok-names.names c.meanings.new.scope c.declare_labels.new.scope decls (items_of (map item_tree c.args.items.now)) c.in_ok-decls.decls.now c.in_ok-items.items u
     c.in_ok-names.ensures c.in_ok-twice.ensures c.in_ok-bounds.ensures.faults (c.in_ok-bounds.ensures.scope ∙ ap (λ (s : Scope Known). s ++ rules_of.meanings path (c.in_ok-names.names ∷ path) decls) c.new-scope.ensures) c.in_ok-declare_labels.ensures
-    (c.in_ok-decls.ensures path c.in_ok-bounds.ensures.bounds) c.in_ok-items.ensures c.block.ensures
+    (c.in_ok-decls.ensures path c.in_ok-bounds.ensures.bounds) c.in_ok-items.ensures h)
+    c.block.ensures
 
 pub meanings-loop-decl-preserved : goal.meanings-loop-decl-preserved
 meanings-loop-decl-preserved t c = (
@@ -177,27 +184,23 @@ decl_bounds-bounds-requires t c = search (rules, ap size_decl (array_at c.args.d
 pub decl_bounds-returns-clause-bounds : goal.decl_bounds-returns-clause-bounds
 decl_bounds-returns-clause-bounds t c =
     let found = typed_bounds (path_view c.args.path.now) (bounds_of (map bound_tree c.deref.result.now)) in
-    let faults : c.replace-faults.result.items ≡ found.inside = search rules in
-    bounds_kept (path_view c.args.path.now) c.args.decl.now c.in-Array.field-0 c.in-Array.field-1 c.in-Array.bounds c.deref.result.now (record { faults = c.replace-faults.result; drafts = c.in_ok-drafts.drafts }) c.in-Array.is c.deref.ensures.value faults c.in_ok-drafts.ensures.bounds
+    let faults : c.in_ok-faults.faults.now ≡ found.inside = search rules in
+    bounds_kept (path_view c.args.path.now) c.args.decl.now c.in-Array.field-0 c.in-Array.field-1 c.in-Array.bounds c.deref.result.now (record { faults = c.in_ok-faults.faults; drafts = c.in_ok-drafts.drafts }) c.in-Array.is c.deref.ensures.value faults c.in_ok-drafts.ensures.bounds
 
 pub bounds-loop-bound-preserved : goal.bounds-loop-bound-preserved
 bounds-loop-bound-preserved t c =
     bounds_step (path_view c.args.path.now) _ _ c.args.bounds.now c.loop-bound.bound-index c.bound-item.result c.loop-bound.self c.bound.new.self c.loop-bound.found.items c.push.new.self.items c.in_ok-bound.field-0 c.loop-bound-test.true c.bound-item.is c.in_ok-bound.ensures c.in_ok-push.ensures.items c.loop-bound.invariant
 
-pub decls-loop-decl-preserved : goal.decls-loop-decl-preserved
-decls-loop-decl-preserved t c =
-    let own = c.unwrap-own.result in
-    let kept = c.next.new.self.rest.items in
-    let first : c.loop-decl.bounds.rest.items ≡ own ∷ kept = c.next.ensures.items ∙ ap (λ (o : Option Bounds). option_to_list o ++ kept) c.unwrap-own.ensures in (
-      fewer c.args.decls.now c.loop-decl.decl-index c.decl-item.result c.loop-decl.bounds.rest.items kept own c.loop-decl-test.true c.decl-item.is first c.loop-decl.invariant.0,
-      λ around found. decls_turn around (path_view c.args.path.now) _ _ c.args.decls.now c.loop-decl.decl-index c.decl-item.result c.loop-decl.self.faults.items c.decl.new.self.faults.items c.loop-decl.found.items c.push.new.self.items c.in_ok-decl.field-0 c.loop-decl.bounds.rest.items kept own
-          c.loop-decl-test.true c.decl-item.is first (c.in_ok-decl.ensures around) c.in_ok-push.ensures.items (c.loop-decl.invariant.1 around found),
-    )
+pub decls-loop-position-preserved : goal.decls-loop-position-preserved
+decls-loop-position-preserved t c around found =
+    let own = own_bounds around c.args.bounds.now c.args.decls.now c.loop-position.position c.index-bounds-position.result c.index-decls-position.result c.loop-position-test.true found c.index-bounds-position.is c.index-decls-position.is in
+    decls_step around (path_view c.args.path.now) _ _ c.args.decls.now c.loop-position.position c.index-decls-position.result c.loop-position.self.faults.items c.decl.new.self.faults.items c.loop-position.found.items c.push.new.self.items c.in_ok-decl.decl
+    c.loop-position-test.true c.index-decls-position.is (c.in_ok-decl.ensures around own) c.in_ok-push.ensures.items (c.loop-position.invariant around found)
 
 pub decls-returns : goal.decls-returns
 decls-returns t c around found =
-    let all : c.into_iter-bounds.result.rest.items ≡ c.args.bounds.items = search rules in
-    decls_end around (path_view c.args.path.now) c.args.decls.now c.loop-decl.decl-index c.args.self.now c.loop-decl.self c.loop-decl.found c.loop-decl-test.false (c.loop-decl.invariant.1 around (ap (map bounds_view) all ∙ found)).1
+    subst (λ (ds : List DraftDecl). DeclsChecked c.args.self.now c.loop-position.self ds (typed_decls around (path_view c.args.path.now) (decls_of (map decl_tree c.args.decls.now)))) (sym c.into_bump_slice.ensures)
+    (decls_end around (path_view c.args.path.now) c.args.decls.now c.loop-position.position c.args.self.now c.loop-position.self c.loop-position.found.items c.loop-position-test.false (c.loop-position.invariant around found))
 
 pub decl-returns-in-Array : goal.decl-returns-in-Array
 decl-returns-in-Array t c around found =
@@ -213,11 +216,9 @@ procedure-returns t c around =
     let formals = c.deref.result.now in
     let same : tree.Proc own.place spec own.name (map formal_tree formals) (tree_of c.deref-3.result.now) ≡ procedure_tree c.args.declared.now =
     ap (λ fs. tree.Proc own.place spec own.name (map formal_tree fs) (tree_of c.deref-3.result.now)) c.deref.ensures.value ∙ ap (λ (b : Phrase). tree.Proc own.place spec own.name (map formal_tree own.formals.items) (tree_of b)) c.deref-3.ensures ∙ sym (procedure_is c.args.declared.now) in
-    IfOk-weaker c.procedure.result _ _
-    (λ (d : DraftDecl) h. subst (λ (z : tree.Decl). DeclFound c.args.self.now.faults.items c.note.new.self.faults.items d (typed_decl around path z)) same
-    (procedure_found around path own.place spec own.name (map formal_tree formals) (tree_of c.deref-3.result.now) c.args.self.now.faults.items c.read_head.new.faults.items c.twice.new.faults.items c.note.new.self.faults.items _ c.phrase.new.self c.in_ok-formals.formals c.in_ok-head.head c.in_ok-body.body (view.verdict c.procedure_verdict.result) d
-    c.in_ok-head.ensures.faults c.in_ok-head.ensures.head (c.in_ok-formals.ensures ∙ ap (λ fs. formal_scope path (map formal_tree fs)) (c.deref-2.ensures.value ∙ sym c.deref.ensures.value)) c.in_ok-twice.ensures refl c.in_ok-body.ensures c.procedure_verdict.ensures c.in_ok-note.ensures h))
-    c.procedure.ensures
+    subst (λ (z : tree.Decl). DeclFound c.args.self.now.faults.items c.note.new.self.faults.items c.procedure.result (typed_decl around path z)) same
+    (procedure_found around path own.place spec own.name (map formal_tree formals) (tree_of c.deref-3.result.now) c.args.self.now.faults.items c.read_head.new.faults.items c.twice.new.faults.items c.note.new.self.faults.items _ c.phrase.new.self c.in_ok-formals.formals c.in_ok-head.head c.in_ok-body.body (view.verdict c.procedure_verdict.result) c.procedure.result
+    c.in_ok-head.ensures.faults c.in_ok-head.ensures.head (c.in_ok-formals.ensures ∙ ap (λ fs. formal_scope path (map formal_tree fs)) (c.deref-2.ensures.value ∙ sym c.deref.ensures.value)) c.in_ok-twice.ensures refl c.in_ok-body.ensures c.procedure_verdict.ensures c.in_ok-note.ensures c.procedure.ensures)
 
 pub items-loop-position-preserved : goal.items-loop-position-preserved
 items-loop-position-preserved t c =

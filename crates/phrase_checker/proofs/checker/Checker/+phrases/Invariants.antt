@@ -1,4 +1,4 @@
-use Rattle.std.proofs.Common.{◌≡◌, suc, ◌+◌, ◌*◌, ◌++◌, length, map, drop}
+use Rattle.std.proofs.Common.{◌≡◌, suc, ◌+◌, ◌*◌, ◌++◌, map, drop}
 use Rattle.algolw_tree.specs.Grammar.{phrases_of, links_of, lists_of, actuals_of, items_of, decls_of, bounds_of}
 use Rattle.algolw_tree.specs.View.{tree, link_tree, list_tree, actual_tree, item_tree, decl_tree, bound_tree, procedure_tree}
 use Rattle.algolw_typing.specs.Names.{declared}
@@ -68,11 +68,14 @@ decreases-assign l = 2 * suc (size (tree l.target.now) + size (tree l.value.now)
 abbrev pub decreases-controlled : goal.decreases-controlled
 decreases-controlled l = 2 * suc (size (tree l.body.now))
 
-abbrev pub decreases-for_until : goal.decreases-for_until
-decreases-for_until l = 2 * suc (size (tree l.start.now) + 1 + size (tree l.limit.now) + size (tree l.body.now))
+abbrev pub decreases-for_range : goal.decreases-for_range
+decreases-for_range l = suc (2 * suc (size (tree l.start.now) + size_perhaps (optional_tree l.step.now) + size (tree l.limit.now) + size (tree l.body.now)))
 
-abbrev pub decreases-for_step : goal.decreases-for_step
-decreases-for_step l = 2 * suc (size (tree l.start.now) + suc (size (tree l.step.now)) + size (tree l.limit.now) + size (tree l.body.now))
+abbrev pub decreases-range : goal.decreases-range
+decreases-range l = 2 * suc (size (tree l.start.now) + size_perhaps (optional_tree l.step.now) + size (tree l.limit.now))
+
+abbrev pub decreases-step : goal.decreases-step
+decreases-step l = 2 * size_perhaps (optional_tree l.step.now)
 
 abbrev pub decreases-for_list : goal.decreases-for_list
 decreases-for_list l = suc (2 * suc (size_phrases (phrases_of (map tree l.values.now)) + size (tree l.body.now)))
@@ -139,12 +142,10 @@ invariant-meanings-loop-decl l =
 abbrev pub invariant-bounds-loop-bound : goal.invariant-bounds-loop-bound
 invariant-bounds-loop-bound l = BoundsSoFar l.initial.self.faults.items l.self.faults.items (map bound_view l.found.items) (typed_bounds (path_view l.path) (bounds_of (map bound_tree l.bounds))) (typed_bounds (path_view l.path) (bounds_of (map bound_tree (drop l.bound-index l.bounds))))
 
-abbrev pub invariant-decls-loop-decl : goal.invariant-decls-loop-decl
-invariant-decls-loop-decl l =
-    (length l.bounds.rest.items ≡ length (drop l.decl-index l.decls))
-    × ((around : Scopes) → map bounds_view l.initial.bounds.rest.items ≡ each_bounds around (map decl_tree l.decls)
-    → (map bounds_view l.bounds.rest.items ≡ each_bounds around (map decl_tree (drop l.decl-index l.decls)))
-    × DeclsSoFar l.initial.self.faults.items l.self.faults.items (map decl_view l.found.items) (typed_decls around (path_view l.path) (decls_of (map decl_tree l.decls))) (typed_decls around (path_view l.path) (decls_of (map decl_tree (drop l.decl-index l.decls)))))
+abbrev pub invariant-decls-loop-position : goal.invariant-decls-loop-position
+invariant-decls-loop-position l =
+    (around : Scopes) → map bounds_view l.bounds ≡ each_bounds around (map decl_tree l.decls)
+    → DeclsSoFar l.initial.self.faults.items l.self.faults.items (map decl_view l.found.items) (typed_decls around (path_view l.path) (decls_of (map decl_tree l.decls))) (typed_decls around (path_view l.path) (decls_of (map decl_tree (drop l.position l.decls))))
 
 abbrev pub invariant-items-loop-position : goal.invariant-items-loop-position
 invariant-items-loop-position l =

@@ -1,12 +1,10 @@
-use Rattle.std.proofs.Common.{◌+◌, suc, map, refl, ap, sym, subst, ◌∙◌, rules}
+use Rattle.std.proofs.Common.{◌+◌, suc, map, refl, ap, subst, rules}
 use Rattle.algolw_typing.specs.Typed as typed
 use Rattle.algolw_typing.specs.ProgramView as program
-use Rattle.typed_drafts.specs.DraftView.{draft_view, kind_view, actual_view, decl_view, procedure_view}
+use Rattle.typed_drafts.specs.DraftView.{draft_view, kind_view, actual_view, decl_view}
 use Rattle.typed_drafts.specs.DraftParts.{link_view, list_view, item_view, bound_view}
 use Rattle.typed_drafts.specs.Onto.{nodes_onto, links_onto, lists_onto, actuals_onto, items_onto, bounds_onto, decls_onto}
-use Rattle.typed_drafts.specs.StatementParts.{perhaps_of}
-use Rattle.typed_drafts.proofs.DraftSizes.{size, size_kind, size_perhaps, size_nodes, size_links, size_lists, size_listing, size_actuals, size_actual, size_items, size_bounds, size_decls, size_decl, item_smaller}
-use Rattle.typed_drafts.specs.DraftView.{placed_view}
+use Rattle.typed_drafts.proofs.DraftSizes.{size, size_kind, size_nodes, size_links, size_lists, size_listing, size_actuals, size_actual, size_items, size_bounds, size_decls, size_decl, item_smaller}
 use Rattle.typed_drafts.proofs.KindRows.{named_at, chain_at, case_value_at, case_do_at, for_list_at, block_at, actuals_at, array_at}
 use Rattle.typed_drafts.specs.declared.drafts.DraftProc.{out-DraftProc}
 use Rattle.program_numbers.proofs.ProcedureParts.{procedure_at}
@@ -147,80 +145,80 @@ block-returns t c = block_made c.args.self.now _ _ _ _ _ _ _ c.in_ok-decls.ensur
 
 pub kind-named-requires : goal.kind-named-requires
 kind-named-requires t c =
-    let e = named_at _ _ c.in-Named.lists _ c.in-Named.is c.deref.ensures.value in
+    let e = named_at _ _ c.in-Named.lists c.in-Named.is in
     let known = subst (KindNumbered c.args.self.now) e c.requires in
     search (rules, ap size_kind e)
 
 pub kind-returns-in-Named : goal.kind-returns-in-Named
-kind-returns-in-Named t c = makes_same c.args.self.now c.args.table.now c.named.new.table (λ made ns. program.kind_view ns made) c.named.result _ _ (named_at _ _ c.in-Named.lists _ c.in-Named.is c.deref.ensures.value) c.named.ensures
+kind-returns-in-Named t c = makes_same c.args.self.now c.args.table.now c.named.new.table (λ made ns. program.kind_view ns made) c.named.result _ _ (named_at _ _ c.in-Named.lists c.in-Named.is) c.named.ensures
 
 pub kind-chain-requires : goal.kind-chain-requires
 kind-chain-requires t c =
-    let e = chain_at _ c.in-Chain.first c.in-Chain.links _ _ c.in-Chain.is c.deref-in-Chain.ensures c.deref-in-Chain-2.ensures.value in
+    let e = chain_at _ c.in-Chain.first c.in-Chain.links c.in-Chain.is in
     let known = subst (KindNumbered c.args.self.now) e c.requires in
     search (rules, ap size_kind e)
 
 pub kind-returns-in-Chain : goal.kind-returns-in-Chain
-kind-returns-in-Chain t c = makes_same c.args.self.now c.args.table.now c.chain.new.table (λ made ns. program.kind_view ns made) c.chain.result _ _ (chain_at _ c.in-Chain.first c.in-Chain.links _ _ c.in-Chain.is c.deref-in-Chain.ensures c.deref-in-Chain-2.ensures.value) c.chain.ensures
+kind-returns-in-Chain t c = makes_same c.args.self.now c.args.table.now c.chain.new.table (λ made ns. program.kind_view ns made) c.chain.result _ _ (chain_at _ c.in-Chain.first c.in-Chain.links c.in-Chain.is) c.chain.ensures
 
 pub kind-case_value-requires : goal.kind-case_value-requires
 kind-case_value-requires t c =
-    let e = case_value_at _ c.in-CaseValue.subject c.in-CaseValue.values _ _ c.in-CaseValue.is c.deref-in-CaseValue.ensures c.deref-in-CaseValue-2.ensures.value in
+    let e = case_value_at _ c.in-CaseValue.subject c.in-CaseValue.values c.in-CaseValue.is in
     let known = subst (KindNumbered c.args.self.now) e c.requires in
     search (rules, ap size_kind e)
 
 pub kind-returns-in-CaseValue : goal.kind-returns-in-CaseValue
-kind-returns-in-CaseValue t c = makes_same c.args.self.now c.args.table.now c.case_value.new.table (λ made ns. program.kind_view ns made) c.case_value.result _ _ (case_value_at _ c.in-CaseValue.subject c.in-CaseValue.values _ _ c.in-CaseValue.is c.deref-in-CaseValue.ensures c.deref-in-CaseValue-2.ensures.value) c.case_value.ensures
+kind-returns-in-CaseValue t c = makes_same c.args.self.now c.args.table.now c.case_value.new.table (λ made ns. program.kind_view ns made) c.case_value.result _ _ (case_value_at _ c.in-CaseValue.subject c.in-CaseValue.values c.in-CaseValue.is) c.case_value.ensures
 
 pub kind-case_do-requires : goal.kind-case_do-requires
 kind-case_do-requires t c =
-    let e = case_do_at _ c.in-CaseDo.subject c.in-CaseDo.parts _ _ c.in-CaseDo.is c.deref-in-CaseDo.ensures c.deref-in-CaseDo-2.ensures.value in
+    let e = case_do_at _ c.in-CaseDo.subject c.in-CaseDo.parts c.in-CaseDo.is in
     let known = subst (KindNumbered c.args.self.now) e c.requires in
     search (rules, ap size_kind e)
 
 pub kind-returns-in-CaseDo : goal.kind-returns-in-CaseDo
-kind-returns-in-CaseDo t c = makes_same c.args.self.now c.args.table.now c.case_do.new.table (λ made ns. program.kind_view ns made) c.case_do.result _ _ (case_do_at _ c.in-CaseDo.subject c.in-CaseDo.parts _ _ c.in-CaseDo.is c.deref-in-CaseDo.ensures c.deref-in-CaseDo-2.ensures.value) c.case_do.ensures
+kind-returns-in-CaseDo t c = makes_same c.args.self.now c.args.table.now c.case_do.new.table (λ made ns. program.kind_view ns made) c.case_do.result _ _ (case_do_at _ c.in-CaseDo.subject c.in-CaseDo.parts c.in-CaseDo.is) c.case_do.ensures
 
 pub kind-listed-requires : goal.kind-listed-requires
 kind-listed-requires t c =
-    let e = for_list_at _ c.in-ForList.control c.in-ForList.values c.in-ForList.body _ _ c.in-ForList.is c.deref-in-ForList.ensures.value c.deref-in-ForList-2.ensures in
+    let e = for_list_at _ c.in-ForList.control c.in-ForList.values c.in-ForList.body c.in-ForList.is in
     let known = subst (KindNumbered c.args.self.now) e c.requires in
     search (rules, ap size_kind e)
 
 pub kind-returns-in-ForList : goal.kind-returns-in-ForList
-kind-returns-in-ForList t c = makes_same c.args.self.now c.args.table.now c.listed.new.table (λ made ns. program.kind_view ns made) c.listed.result _ _ (for_list_at _ c.in-ForList.control c.in-ForList.values c.in-ForList.body _ _ c.in-ForList.is c.deref-in-ForList.ensures.value c.deref-in-ForList-2.ensures) c.listed.ensures
+kind-returns-in-ForList t c = makes_same c.args.self.now c.args.table.now c.listed.new.table (λ made ns. program.kind_view ns made) c.listed.result _ _ (for_list_at _ c.in-ForList.control c.in-ForList.values c.in-ForList.body c.in-ForList.is) c.listed.ensures
 
 pub kind-block-requires : goal.kind-block-requires
 kind-block-requires t c =
-    let e = block_at _ c.in-Block.decls c.in-Block.items _ _ c.in-Block.is c.deref-in-Block.ensures.value c.deref-in-Block-2.ensures.value in
+    let e = block_at _ c.in-Block.decls c.in-Block.items c.in-Block.is in
     let known = subst (KindNumbered c.args.self.now) e c.requires in
     search (rules, ap size_kind e)
 
 pub kind-returns-in-Block : goal.kind-returns-in-Block
-kind-returns-in-Block t c = makes_same c.args.self.now c.args.table.now c.block.new.table (λ made ns. program.kind_view ns made) c.block.result _ _ (block_at _ c.in-Block.decls c.in-Block.items _ _ c.in-Block.is c.deref-in-Block.ensures.value c.deref-in-Block-2.ensures.value) c.block.ensures
+kind-returns-in-Block t c = makes_same c.args.self.now c.args.table.now c.block.new.table (λ made ns. program.kind_view ns made) c.block.result _ _ (block_at _ c.in-Block.decls c.in-Block.items c.in-Block.is) c.block.ensures
 
 pub list-actuals-requires : goal.list-actuals-requires
 list-actuals-requires t c =
-    let e = actuals_at c.args.list.now.place _ c.in-Actuals.actuals _ c.in-Actuals.is c.deref.ensures.value in
+    let e = actuals_at c.args.list.now.place _ c.in-Actuals.actuals c.in-Actuals.is in
     let known = subst (ListingNumbered c.args.self.now) e c.requires in
     search (rules, ap size_listing e)
 
 pub list-returns-in_ok-actuals-in-Actuals : goal.list-returns-in_ok-actuals-in-Actuals
-list-returns-in_ok-actuals-in-Actuals t c = makes_as c.args.self.now _ _ _ _ _ (actuals_at c.args.list.now.place _ c.in-Actuals.actuals _ c.in-Actuals.is c.deref.ensures.value) (actuals_made c.args.self.now _ _ c.args.list.now.place _ _ c.in_ok-actuals-in-Actuals.ensures)
+list-returns-in_ok-actuals-in-Actuals t c = makes_as c.args.self.now _ _ _ _ _ (actuals_at c.args.list.now.place _ c.in-Actuals.actuals c.in-Actuals.is) (actuals_made c.args.self.now _ _ c.args.list.now.place _ _ c.in_ok-actuals-in-Actuals.ensures)
 
 pub decl-bounds-requires : goal.decl-bounds-requires
 decl-bounds-requires t c =
-    let e = array_at _ c.in-Array.of c.in-Array.names c.in-Array.bounds _ c.in-Array.is c.deref-in-Array-2.ensures.value in
+    let e = array_at _ c.in-Array.of c.in-Array.names c.in-Array.bounds c.in-Array.is in
     let known = subst (DeclNumbered c.args.self.now) e c.requires in
     search (rules, ap size_decl e)
 
 pub decl-returns-in_ok-bounds-in-Array : goal.decl-returns-in_ok-bounds-in-Array
-decl-returns-in_ok-bounds-in-Array t c = makes_as c.args.self.now _ _ _ _ _ (array_at _ c.in-Array.of c.in-Array.names c.in-Array.bounds _ c.in-Array.is c.deref-in-Array-2.ensures.value) (array_made c.args.self.now _ _ _ _ c.in_ok-names-in-Array.names c.in_ok-bounds-in-Array.bounds _ _ _ (c.in_ok-names-in-Array.ensures ∙ ap placed_view c.deref-in-Array.ensures.value) c.in_ok-of-in-Array.ensures c.in_ok-bounds-in-Array.ensures)
+decl-returns-in_ok-bounds-in-Array t c = makes_as c.args.self.now _ _ _ _ _ (array_at _ c.in-Array.of c.in-Array.names c.in-Array.bounds c.in-Array.is) (array_made c.args.self.now _ _ _ _ c.in_ok-names-in-Array.names c.in_ok-bounds-in-Array.bounds _ _ _ c.in_ok-names-in-Array.ensures c.in_ok-of-in-Array.ensures c.in_ok-bounds-in-Array.ensures)
 
 pub items-loop-item-preserved : goal.items-loop-item-preserved
-items-loop-item-preserved t c = turn c.args.self.now c.args.table.now c.loop-item.table _ item_in item_view c.args.items.now c.loop-item.item-index c.item-item.result c.loop-item.made.items c.push.new.self.items (record { labels = c.in_ok-labels.labels; phrase = c.in_ok-phrase.phrase }) c.loop-item-test.true c.item-item.is c.loop-item.invariant (item_made c.args.self.now _ _ c.in_ok-labels.labels _ _ _ (c.in_ok-labels.ensures ∙ ap placed_view c.deref.ensures.value) c.in_ok-phrase.ensures) c.in_ok-push.ensures.items
+items-loop-item-preserved t c = turn c.args.self.now c.args.table.now c.loop-item.table _ item_in item_view c.args.items.now c.loop-item.item-index c.item-item.result c.loop-item.made.items c.push.new.self.items (record { labels = c.in_ok-labels.labels; phrase = c.in_ok-phrase.phrase }) c.loop-item-test.true c.item-item.is c.loop-item.invariant (item_made c.args.self.now _ _ c.in_ok-labels.labels _ _ _ c.in_ok-labels.ensures c.in_ok-phrase.ensures) c.in_ok-push.ensures.items
 
 pub procedure-returns : goal.procedure-returns
 procedure-returns t c =
-    makes_as c.args.self.now _ _ _ _ _ (procedure_at c.args.procedure.now _ _ c.deref.ensures.value c.deref-2.ensures)
+    makes_as c.args.self.now _ _ _ _ _ (procedure_at c.args.procedure.now)
     (procedure_made c.args.self.now _ _ _ _ _ c.in_ok-result.result _ c.in_ok-formals.formals c.in_ok-body.body _ _ _ _ (ap (λ q. (q, (out-DraftProc c.args.procedure.now).name)) c.number.ensures) c.in_ok-result.ensures c.in_ok-formals.ensures c.in_ok-body.ensures)

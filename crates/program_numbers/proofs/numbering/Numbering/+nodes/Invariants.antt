@@ -29,10 +29,10 @@ abbrev pub decreases-is_class : goal.decreases-is_class
 decreases-is_class l = suc (suc (size (draft_view l.operand.now)))
 
 abbrev pub decreases-conditional : goal.decreases-conditional
-decreases-conditional l = suc (suc (size (draft_view l.condition.now) + size (draft_view l.then.now) + size_perhaps (perhaps_of l.otherwise.now)))
+decreases-conditional l = suc (suc (size (draft_view l.condition.now) + size (draft_view l.then.now) + size_perhaps (perhaps_of l.otherwise)))
 
 abbrev pub decreases-stepped : goal.decreases-stepped
-decreases-stepped l = suc (suc (size (draft_view l.start.now) + size_perhaps (perhaps_of l.step.now) + size (draft_view l.limit.now) + size (draft_view l.body.now)))
+decreases-stepped l = suc (suc (size (draft_view l.start.now) + size_perhaps (perhaps_of l.step) + size (draft_view l.limit.now) + size (draft_view l.body.now)))
 
 abbrev pub decreases-listed : goal.decreases-listed
 decreases-listed l = suc (suc (size_nodes (nodes_onto (map draft_view l.values.now) typed.no_nodes) + size (draft_view l.body.now)))
@@ -41,7 +41,7 @@ abbrev pub decreases-block : goal.decreases-block
 decreases-block l = suc (size_decls (decls_onto (map decl_view l.decls.now) typed.no_decls) + size_items (items_onto (map item_view l.items.now) typed.no_items))
 
 abbrev pub decreases-perhaps : goal.decreases-perhaps
-decreases-perhaps l = size_perhaps (perhaps_of l.draft.now)
+decreases-perhaps l = size_perhaps (perhaps_of l.draft)
 
 abbrev pub decreases-list : goal.decreases-list
 decreases-list l = size_listing (list_view l.list.now)

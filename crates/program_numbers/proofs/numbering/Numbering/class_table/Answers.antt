@@ -1,4 +1,4 @@
-use Rattle.std.proofs.Common.{map, sym, ap, subst, ◌∙◌}
+use Rattle.std.proofs.Common.{map, sym, ap, subst}
 use Rattle.algolw_typing.specs.Known.{FieldsKnow, ClassesKnow}
 use Rattle.block_scopes.specs.ClassView.{class_view, field_view}
 use Rattle.program_numbers.specs.HoldsClasses.{HoldsClasses}

@@ -1,17 +1,14 @@
-use Rattle.std.proofs.Common.{rules, ◌≡◌, ℕ, List, map, sym, ap, ◌∙◌}
+use Rattle.std.proofs.Common.{rules, ◌≡◌, ℕ, Some, List, map, ◌∙◌}
 use Rattle.std.proofs.lemmas.Result.{IfOk-weaker}
-use Rattle.algolw_typing.specs.Actuals.{list_row}
-use Rattle.algolw_typing.specs.Meanings.{all_read}
-use Rattle.algolw_typing.specs.Verdicts.{Verdict}
-use Rattle.typing_rules.specs.MeaningView.{part, meaning, after}
+use Rattle.algolw_typing.specs.Typing.{use_with_list}
+use Rattle.typing_rules.specs.MeaningView.{part}
+use Rattle.declared_names.specs.KnownView.{entry_of}
 use Rattle.typed_phrases.specs.Fronts.{front_list}
 use Rattle.typed_phrases.specs.FrontViews.{front_view}
 use Rattle.typed_phrases.proofs.designators.Front.with_list.Goals as goal
 
-pub returns-in-Ok : goal.returns-in-Ok
-returns-in-Ok c =
+pub returns-in-Name-default-Some : goal.returns-in-Name-default-Some
+returns-in-Name-default-Some c =
     let parts = map part c.args.parts.now in
-    let row : Verdict = list_row c.in-Name-default-Some.name (meaning c.in-Some.meaning) c.in-Name-default-Some.known.place parts in
-    let read : row ≡ all_read parts row = sym (ap (λ r. after r (λ _. row)) c.in-Ok.is) ∙ c.all_read.ensures row in
-    let at : (x : List ℕ) → all_read parts row ≡ front_list c.args.place (front_view x c.args.self) parts = λ x. search rules in
-    IfOk-weaker c.list_row.result _ _ (λ v h x. h ∙ read ∙ at x) c.list_row.ensures
+    let at : (x : List ℕ) → use_with_list c.in-Name-default-Some.name (Some (entry_of x c.in-Name-default-Some.known)) parts ≡ front_list c.args.place (front_view x c.args.self) parts = λ x. search rules in
+    IfOk-weaker c.known_with_list.result _ _ (λ v h x. h x ∙ at x) c.known_with_list.ensures

@@ -1,0 +1,137 @@
+-- Where among names the first of each stands.
+use Rattle.std.proofs.Common.{◌≡◌, ℕ, zero, suc, ◌<◌, Bool, true, false, nat_lt, cond, take, List, [], ◌∷◌, ◌++◌, Option, Some, None, Result, Ok, Err, length, get_or, refl, sym, ap, subst, ◌∙◌, arith}
+use Rattle.std.proofs.lemmas.Bool.Decides.{nat_tests}
+use Rattle.std.proofs.lemmas.Option.{same_Some}
+use Rattle.std.proofs.lemmas.Map.Text.{is_eq-slice_cmp}
+use Rattle.std.proofs.lemmas.Slice.Eq.{bytes_eq-Decides}
+use Rattle.std.specs.BTreeMap.{BTreeMap, get, is_at}
+use Rattle.std.specs.Option.{option_map, option_or, is_some}
+use Rattle.std.specs.Result.{is_err, OnOk}
+use Rattle.std.specs.Str.{bytes_eq}
+use Rattle.short_text.specs.Order.{bytes_cmp}
+use Rattle.algolw_tree.specs.Tree.{Placed}
+use Rattle.algolw_typing.specs.Names.{in_scope}
+use Rattle.algolw_typing.specs.Naming.{scope_of, place_of}
+use Rattle.name_scopes.specs.Firsts.{Firsts, first_of}
+
+pub push_step : (same : Bool) (p q : Option ℕ) → (elim same [ true ↦ Some 0 | false ↦ option_map suc (option_or p q) ]) ≡ option_or (elim same [ true ↦ Some 0 | false ↦ option_map suc p ]) (option_map suc q)
+push_step true p q = refl
+push_step false None q = refl
+push_step false (Some n) q = refl
+
+pub next : (same : Bool) (n : ℕ) → option_map suc (cond same (Some n) None) ≡ cond same (Some (suc n)) None
+next true n = refl
+next false n = refl
+
+pub first_alone : (same : Bool) → (elim same as (λ b. Option ℕ) [ true ↦ Some 0 | false ↦ None ]) ≡ cond same (Some 0) None
+first_alone true = refl
+first_alone false = refl
+
+-- a name more stands at the end
+pub first_of-push : (xs : List Placed) (x : Placed) (q : List ℕ) → first_of (xs ++ x ∷ []) q ≡ option_or (first_of xs q) (cond (bytes_eq x.0 q) (Some (length xs)) None)
+first_of-push [] x q = first_alone (bytes_eq x.0 q)
+first_of-push (y ∷ xs) x q =
+    ap (λ (p : Option ℕ). elim (bytes_eq y.0 q) [ true ↦ Some 0 | false ↦ option_map suc p ]) (first_of-push xs x q)
+    ∙ push_step (bytes_eq y.0 q) (first_of xs q) (cond (bytes_eq x.0 q) (Some (length xs)) None)
+    ∙ ap (option_or (first_of (y ∷ xs) q)) (next (bytes_eq x.0 q) (length xs))
+
+pub kept_by : (same : Bool) (p : Option ℕ) (n : ℕ) → (same ≡ true → is_some p ≡ true) → option_or p (cond same (Some n) None) ≡ p
+kept_by same (Some m) n h = refl
+kept_by false None n h = refl
+kept_by true None n h = let no = h refl in cc
+
+-- a name that was there keeps its first
+pub firsts-kept : (xs : List Placed) (x : Placed) (old : BTreeMap (List ℕ) ℕ) → Firsts xs old → is_some (get bytes_cmp old x.0) ≡ true → Firsts (xs ++ x ∷ []) old
+firsts-kept xs x old f there = record {
+  at = λ q.
+      f.at q
+      ∙ sym (first_of-push xs x q ∙ kept_by (bytes_eq x.0 q) (first_of xs q) (length xs) (λ h. ap is_some (sym (f.at q)) ∙ ap (λ r. is_some (get bytes_cmp old r)) (sym ((bytes_eq-Decides x.0 q).0 h)) ∙ there));
+}
+
+pub new_by : (same : Bool) (p : Option ℕ) (n : ℕ) → (same ≡ true → p ≡ None) → cond same (Some n) p ≡ option_or p (cond same (Some n) None)
+new_by true p n h = ap (λ (o : Option ℕ). option_or o (Some n)) (sym (h refl))
+new_by false None n h = refl
+new_by false (Some m) n h = refl
+
+-- a name that was not there stands first at the end
+pub firsts-new : (xs : List Placed) (x : Placed) (n : ℕ) (old new : BTreeMap (List ℕ) ℕ) → Firsts xs old → get bytes_cmp old x.0 ≡ None → n ≡ length xs
+    → ((q : List ℕ) → get bytes_cmp new q ≡ cond (is_at (bytes_cmp x.0) q) (Some n) (get bytes_cmp old q))
+    → Firsts (xs ++ x ∷ []) new
+firsts-new xs x n old new f none long is = record {
+  at = λ q.
+      is q
+      ∙ ap (λ (b : Bool). cond b (Some n) (get bytes_cmp old q)) (is_eq-slice_cmp x.0 q)
+      ∙ new_by (bytes_eq x.0 q) (get bytes_cmp old q) n (λ h. ap (get bytes_cmp old) (sym ((bytes_eq-Decides x.0 q).0 h)) ∙ none)
+      ∙ ap (λ (p : Option ℕ). option_or p (cond (bytes_eq x.0 q) (Some n) None)) (f.at q)
+      ∙ ap (λ (m : ℕ). option_or (first_of xs q) (cond (bytes_eq x.0 q) (Some m) None)) long
+      ∙ sym (first_of-push xs x q);
+}
+
+-- what stands at a first
+pub record StandsAt (xs : List Placed) (q : List ℕ) (i : ℕ) : Type 0 where
+  pub within : i < length xs
+  pub is : (d : Placed) → place_of (in_scope (scope_of xs) q) ≡ Some (get_or xs i d).1
+
+found_step : (same : Bool) (x : Placed) (xs : List Placed) (q : List ℕ) (i : ℕ) (p : Option ℕ) → bytes_eq x.0 q ≡ same → first_of xs q ≡ p → ((j : ℕ) → p ≡ Some j → StandsAt xs q j)
+    → (elim same as (λ b. Option ℕ) [ true ↦ Some 0 | false ↦ option_map suc p ]) ≡ Some i → StandsAt (x ∷ xs) q i
+found_step true x xs q zero p b e f h = record { within = omega arith; is = λ d. rw (b, place_of) refl }
+found_step true x xs q (suc i) p b e f h = cc
+found_step false x xs q i None b e f h = cc
+found_step false x xs q zero (Some j) b e f h = let g = same_Some _ _ h in absurd (omega (arith, g))
+found_step false x xs q (suc i) (Some j) b e f h =
+    let k : j ≡ i = omega (arith, same_Some _ _ h) in
+    let s : StandsAt xs q i = subst (StandsAt xs q) k (f j refl) in
+    record { within = omega (arith, s.within); is = λ d. rw (b, place_of) (s.is d) }
+
+pub first_stands : (xs : List Placed) (q : List ℕ) (i : ℕ) → first_of xs q ≡ Some i → StandsAt xs q i
+first_stands [] q i h = cc
+first_stands (x ∷ xs) q i h = found_step (bytes_eq x.0 q) x xs q i (first_of xs q) refl refl (λ j e. first_stands xs q j e) h
+
+none_step : (same : Bool) (x : Placed) (xs : List Placed) (q : List ℕ) (p : Option ℕ) → bytes_eq x.0 q ≡ same → (p ≡ None → place_of (in_scope (scope_of xs) q) ≡ None)
+    → (elim same as (λ b. Option ℕ) [ true ↦ Some 0 | false ↦ option_map suc p ]) ≡ None → place_of (in_scope (scope_of (x ∷ xs)) q) ≡ None
+none_step true x xs q p b f h = cc
+none_step false x xs q None b f h = rw (b, place_of) (f refl)
+none_step false x xs q (Some j) b f h = cc
+
+pub none_first : (xs : List Placed) (q : List ℕ) → first_of xs q ≡ None → place_of (in_scope (scope_of xs) q) ≡ None
+none_first [] q h = refl
+none_first (x ∷ xs) q h = none_step (bytes_eq x.0 q) x xs q (first_of xs q) refl (none_first xs q) h
+
+-- what the tests of a map and of a result tell
+pub none_there : {A : Type 0} (o : Option A) → false ≡ is_some o → o ≡ None
+none_there None h = refl
+none_there (Some a) h = cc
+
+pub where_ok : {T E : Type 0} (r : Result T E) (P : Type 0) → false ≡ is_err r → OnOk r P → P
+where_ok (Ok x) P h p = p
+where_ok (Err e) P h p = cc
+
+-- a name stands in front of a position where its first does
+abbrev pub in_front : Option ℕ → ℕ → Bool
+in_front None i = false
+in_front (Some first) i = nat_lt first i
+
+less_suc : (j i : ℕ) → nat_lt (suc j) (suc i) ≡ nat_lt j i
+less_suc j i = grind (arith, nat_tests)
+
+none_less : (i : ℕ) → nat_lt 0 (suc i) ≡ true
+none_less i = grind (arith, nat_tests)
+
+less_none : (j : ℕ) → nat_lt j 0 ≡ false
+less_none j = grind (arith, nat_tests)
+
+front_step : (same : Bool) (x : Placed) (xs : List Placed) (q : List ℕ) (i : ℕ) (p : Option ℕ) → bytes_eq x.0 q ≡ same → in_front p i ≡ is_some (in_scope (scope_of (take i xs)) q)
+    → in_front (elim same as (λ b. Option ℕ) [ true ↦ Some 0 | false ↦ option_map suc p ]) (suc i) ≡ is_some (in_scope (scope_of (take (suc i) (x ∷ xs))) q)
+front_step true x xs q i p b h = rw (b, in_scope) (none_less i)
+front_step false x xs q i None b h = rw (b, in_scope) h
+front_step false x xs q i (Some j) b h = rw (b, in_scope) (less_suc j i ∙ h)
+
+none_in_front : (p : Option ℕ) → in_front p 0 ≡ false
+none_in_front None = refl
+none_in_front (Some j) = less_none j
+
+pub first_in_front : (xs : List Placed) (q : List ℕ) (i : ℕ) → in_front (first_of xs q) i ≡ is_some (in_scope (scope_of (take i xs)) q)
+first_in_front [] q zero = refl
+first_in_front [] q (suc i) = refl
+first_in_front (x ∷ xs) q zero = none_in_front (first_of (x ∷ xs) q)
+first_in_front (x ∷ xs) q (suc i) = front_step (bytes_eq x.0 q) x xs q i (first_of xs q) refl (first_in_front xs q i)

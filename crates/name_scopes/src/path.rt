@@ -1,0 +1,31 @@
+ghost use Rattle.std.specs.Prelude.{◌≡◌};
+ghost use Rattle.algolw_typing.specs.Names.{declared};
+ghost use Rattle.algolw_typing.specs.Naming.{place_of};
+ghost use Rattle.name_scopes.specs.Paths.{path_view};
+
+use crate::scope::Scope;
+use value_ops::{Name, Place};
+
+/// The scopes in which a phrase stands, the innermost first.
+#[derive(Clone, Copy)]
+pub enum ScopePath<'a> {
+    /// No scope.
+    Outermost,
+    /// A scope, and those around it.
+    Inner(&'a Scope, &'a ScopePath<'a>),
+}
+
+impl ScopePath<'_> {
+    /// The place of the declaration that a name has here.
+    pub fn declared(&self, name: &Name) -> Option<Place>
+        ensures { result ≡ place_of (declared (path_view self.now) name.now) }
+    {
+        match self {
+            ScopePath::Outermost => None,
+            ScopePath::Inner(own, outer) => match own.declared(name) {
+                Some(place) => Some(place),
+                None => outer.declared(name),
+            },
+        }
+    }
+}

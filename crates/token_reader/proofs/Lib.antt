@@ -1,0 +1,4 @@
+pub mod Turns
+pub mod Chains
+pub mod Shrink
+pub mod Labels

@@ -1,0 +1,14 @@
+use Rattle.std.proofs.Common.{sym, ◌∙◌}
+use Rattle.algolw_tree.specs.declared.tokens.Symbol.TheVariants.{Semicolon}
+use Rattle.algolw_tree.specs.View.{formal_tree}
+use Rattle.algolw_grammar.specs.Kinds.{the_symbol}
+use Rattle.token_reader.proofs.Turns.{turn_kept}
+use Rattle.token_reader.proofs.Shrink.{shrinks_formal}
+use Rattle.token_reader.proofs.parser.Parser.later_formals.Goals as goal
+
+pub turns-smaller : goal.turns-smaller
+turns-smaller c = shrinks_formal.less c.turns.self.rest.now _ _ c.later_formal.new.self.rest.now c.in_ok-one.ensures
+
+pub turns-preserved : goal.turns-preserved
+turns-preserved c =
+    turn_kept (the_symbol Semicolon) _ formal_tree shrinks_formal c.turns.formals.items _ c.in_ok-one.one c.turns.self.rest.now c.later_formal.new.self.rest.now _ c.in_ok-push-2.ensures.items (sym c.at_symbol.ensures ∙ c.turns-test.true) c.in_ok-one.ensures c.turns.invariant

@@ -1,0 +1,83 @@
+ghost use Rattle.std.specs.Prelude.{◌≡◌, map, IfOk};
+ghost use Rattle.algolw_tree.specs.Tree.{ForList, Array as ArrayDecl, OfActuals};
+ghost use Rattle.algolw_tree.specs.Grammar.{at, phrases_of, bounds_of, actuals_of, block_of, named_of, chain_of, case_of, case_value, case_do};
+ghost use Rattle.algolw_tree.specs.View.{tree, kind_tree, spec_tree, decl_tree, item_tree, bound_tree, list_tree, link_tree, actual_tree};
+
+use algolw_tree::{Actual, Bound, Decl, Item, Kind, Link, List, ListKind, Names, Phrase, TypeSpec};
+use std::alloc::{AllocError, Global};
+use value_ops::{Name, Place};
+
+/// A phrase whose place is that of its first token.
+pub fn at(place: Place, kind: Kind) -> Phrase
+    ensures { tree result ≡ at place (kind_tree kind) }
+{
+    Phrase {
+        place,
+        first: place,
+        kind,
+    }
+}
+
+/// A name with its lists.
+pub fn named(name: (Name, Place), lists: Vec<List>) -> Phrase
+    ensures { tree result ≡ named_of (name, map list_tree lists.items) }
+{
+    at(name.1, Kind::Named(name.0, lists))
+}
+
+/// A block.
+pub fn block(place: Place, decls: Vec<Decl>, items: Vec<Item>) -> Phrase
+    ensures { tree result ≡ block_of (place, (map decl_tree decls.items, map item_tree items.items)) }
+{
+    at(place, Kind::Block(decls, items))
+}
+
+/// A chain, where there are links.
+pub fn chained(alloc: Global, first: Phrase, links: Vec<Link>) -> Result<Phrase, AllocError>
+    ensures { IfOk result (λ phrase. tree phrase ≡ chain_of (tree first, map link_tree links.items)) }
+{
+    if links.is_empty() {
+        return Ok(first);
+    }
+    let place = first.first;
+    let first = Box::new(alloc, first)?;
+    Ok(at(place, Kind::Chain(first, links)))
+}
+
+/// A CASE with values.
+pub fn case_value(place: Place, subject: Box<Phrase>, values: Vec<Phrase>) -> Phrase
+    ensures { tree result ≡ case_of (place, case_value (map tree values.items) (tree subject.value)) }
+{
+    at(place, Kind::CaseValue(subject, values))
+}
+
+/// A CASE with statements.
+pub fn case_do(place: Place, subject: Box<Phrase>, parts: Vec<Phrase>) -> Phrase
+    ensures { tree result ≡ case_of (place, case_do (map tree parts.items) (tree subject.value)) }
+{
+    at(place, Kind::CaseDo(subject, parts))
+}
+
+/// A FOR with a list of values.
+pub fn for_list(place: Place, control: Name, values: Vec<Phrase>, body: Box<Phrase>) -> Phrase
+    ensures { tree result ≡ at place (ForList control (phrases_of (map tree values.items)) (tree body.value)) }
+{
+    at(place, Kind::ForList(control, values, body))
+}
+
+/// A list of actuals.
+pub fn actuals(place: Place, actuals: Vec<Actual>) -> List
+    ensures { list_tree result ≡ OfActuals place (actuals_of (map actual_tree actuals.items)) }
+{
+    List {
+        place,
+        kind: ListKind::Actuals(actuals),
+    }
+}
+
+/// Arrays.
+pub fn arrays(spec: TypeSpec, names: Names, bounds: Vec<Bound>) -> Decl
+    ensures { decl_tree result ≡ ArrayDecl (spec_tree spec) names.items (bounds_of (map bound_tree bounds.items)) }
+{
+    Decl::Array(spec, names, bounds)
+}

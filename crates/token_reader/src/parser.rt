@@ -1,0 +1,379 @@
+ghost use Rattle.std.specs.Prelude.{◌≡◌, suc, None, MatchOption};
+ghost use Rattle.algolw_tree.specs.Parts.{follow, is_else};
+ghost use Rattle.algolw_tree.specs.Grammar.{empty_at, goto_of};
+ghost use Rattle.algolw_tree.specs.Tree as T;
+ghost use Rattle.algolw_tree.specs.View.{tree};
+ghost use Rattle.algolw_grammar.specs.Kinds.{opens, has, word_number, the_word, the_symbol, a_name};
+ghost use Rattle.algolw_grammar.specs.Readers.{read_empty, read_token, read_deep};
+ghost use Rattle.algolw_grammar.specs.Reading.{read_word, read_symbol, read_name, read_number, read_goto, first_phrase, first_goto, first_decl, listing_values};
+ghost use Rattle.algolw_grammar.specs.Taken.{is_word, is_symbol, finish_taken, label_taken};
+ghost use Rattle.token_reader.specs.declared.stop.Stop.TheVariants.{Unexpected, TooDeep};
+ghost use Rattle.token_reader.specs.Gives.{Gives, Fails, place_at, ReadsLabel, ReadsLabels};
+
+use crate::stop::Stop;
+use algolw_tree::{Kind, Names, Phrase, Symbol, Token, TokenKind, Word};
+use std::alloc::Global;
+use value_ops::{Name, Place};
+
+/// What is left to be read. Each method that reads gives what its line of the grammar says, and leaves what stands behind it.
+#[derive(Drop)]
+pub struct Parser<'a> {
+    /// Where the tree is made.
+    pub alloc: Global,
+    /// The tokens that are left.
+    pub rest: &'a [Token],
+}
+
+/// Whether a token is this word.
+fn is_word(kind: &TokenKind, word: Word) -> bool
+    ensures { result ≡ is_word word kind.now }
+{
+    match kind {
+        TokenKind::Word(found) => *found == word,
+        _ => false,
+    }
+}
+
+/// Whether a token is this symbol.
+fn is_symbol(kind: &TokenKind, symbol: Symbol) -> bool
+    ensures { result ≡ is_symbol symbol kind.now }
+{
+    match kind {
+        TokenKind::Symbol(found) => *found == symbol,
+        _ => false,
+    }
+}
+
+/// Whether this word may begin a phrase.
+fn opens_phrase(word: Word) -> bool
+    ensures { result ≡ has (word_number word) first_phrase }
+{
+    matches!(
+        word,
+        Word::If
+            | Word::Case
+            | Word::For
+            | Word::While
+            | Word::Goto
+            | Word::Go
+            | Word::Assert
+            | Word::Abs
+            | Word::Begin
+            | Word::True
+            | Word::False
+            | Word::Null
+    )
+}
+
+impl Parser<'_> {
+    /// Whether the next token is this word.
+    #[tactic(auto, using(algolw_grammar::proofs::Numbers::word_opens))]
+    pub fn at_word(&self, word: Word) -> bool
+        ensures { result ≡ opens (the_word word) self.now.rest.now }
+    {
+        match self.rest {
+            [token, ..] => is_word(&token.kind, word),
+            [] => false,
+        }
+    }
+
+    /// Whether the next token is this symbol.
+    pub fn at_symbol(&self, symbol: Symbol) -> bool
+        ensures { result ≡ opens (the_symbol symbol) self.now.rest.now }
+    {
+        match self.rest {
+            [token, ..] => token.kind == TokenKind::Symbol(symbol),
+            [] => false,
+        }
+    }
+
+    /// Whether the next token is a name.
+    pub fn at_name(&self) -> bool
+        ensures { result ≡ opens a_name self.now.rest.now }
+    {
+        match self.rest {
+            [token, ..] => matches!(token.kind, TokenKind::Named(_)),
+            [] => false,
+        }
+    }
+
+    /// Whether the next token may begin a phrase.
+    pub fn at_phrase(&self) -> bool
+        ensures { result ≡ opens first_phrase self.now.rest.now }
+    {
+        match self.rest {
+            [token, ..] => match token.kind {
+                TokenKind::Word(word) => opens_phrase(word),
+                TokenKind::Symbol(symbol) => matches!(
+                    symbol,
+                    Symbol::Not | Symbol::Plus | Symbol::Minus | Symbol::Open
+                ),
+                TokenKind::Named(_)
+                | TokenKind::Number(_)
+                | TokenKind::BitsLit(_)
+                | TokenKind::Quoted(_) => true,
+                TokenKind::Finish => false,
+            },
+            [] => false,
+        }
+    }
+
+    /// Whether the next token is ELSE.
+    pub fn at_else(&self) -> bool
+        ensures { result ≡ is_else (follow self.now.rest.now None) }
+    {
+        match self.rest {
+            [token, ..] => matches!(token.kind, TokenKind::Word(Word::Else)),
+            [] => false,
+        }
+    }
+
+    /// Whether a jump begins here.
+    pub fn at_goto(&self) -> bool
+        ensures { result ≡ opens first_goto self.now.rest.now }
+    {
+        match self.rest {
+            [token, ..] => matches!(token.kind, TokenKind::Word(Word::Goto | Word::Go)),
+            [] => false,
+        }
+    }
+
+    /// Whether the values of a FOR go on or end here.
+    pub fn at_values(&self) -> bool
+        ensures { result ≡ opens listing_values self.now.rest.now }
+    {
+        match self.rest {
+            [token, ..] => matches!(
+                token.kind,
+                TokenKind::Symbol(Symbol::Comma) | TokenKind::Word(Word::Do)
+            ),
+            [] => false,
+        }
+    }
+
+    /// Whether a declaration begins here.
+    pub fn at_decl(&self) -> bool
+        ensures { result ≡ opens first_decl self.now.rest.now }
+    {
+        match self.rest {
+            [token, ..] => matches!(
+                token.kind,
+                TokenKind::Word(
+                    Word::Procedure
+                        | Word::Record
+                        | Word::Integer
+                        | Word::Logical
+                        | Word::Bits
+                        | Word::String
+                        | Word::Reference
+                )
+            ),
+            [] => false,
+        }
+    }
+
+    /// The place of the next token, where there is one.
+    pub fn place(&self) -> Option<Place>
+        ensures { result ≡ place_at self.now.rest.now }
+    {
+        match self.rest {
+            [token, ..] => Some(token.place),
+            [] => None,
+        }
+    }
+
+    /// The next token doesn't go on.
+    pub fn unexpected(&self) -> Stop
+        ensures { result ≡ Unexpected (place_at self.now.rest.now) }
+    {
+        Stop::Unexpected(self.place())
+    }
+
+    /// The next token begins nesting beyond the limit.
+    pub fn too_deep(&self) -> Stop
+        ensures { result ≡ TooDeep (place_at self.now.rest.now) }
+    {
+        Stop::TooDeep(self.place())
+    }
+
+    /// What stands where no level of nesting is left for a phrase.
+    pub fn beyond(&self) -> Stop
+        ensures { Fails {A = T.Phrase} result (read_deep first_phrase self.now.rest.now) }
+    {
+        if self.at_phrase() {
+            self.too_deep()
+        } else {
+            self.unexpected()
+        }
+    }
+
+    /// This word, and its place.
+    pub fn expect_word(&mut self, word: Word) -> Result<Place, Stop>
+        ensures { Gives (λ x. x) result self.new.rest.now (read_word word self.old.rest.now) }
+    {
+        match self.rest {
+            [token, rest @ ..] if is_word(&token.kind, word) => {
+                self.rest = rest;
+                Ok(token.place)
+            }
+            _ => Err(self.unexpected()),
+        }
+    }
+
+    /// This symbol, and its place.
+    pub fn expect_symbol(&mut self, symbol: Symbol) -> Result<Place, Stop>
+        ensures { Gives (λ x. x) result self.new.rest.now (read_symbol symbol self.old.rest.now) }
+    {
+        match self.rest {
+            [token, rest @ ..] if is_symbol(&token.kind, symbol) => {
+                self.rest = rest;
+                Ok(token.place)
+            }
+            _ => Err(self.unexpected()),
+        }
+    }
+
+    /// The end of the deck, and its place.
+    pub fn expect_finish(&mut self) -> Result<Place, Stop>
+        ensures { Gives (λ x. x) result self.new.rest.now (read_token finish_taken self.old.rest.now) }
+    {
+        match self.rest {
+            [
+                Token {
+                    kind: TokenKind::Finish,
+                    place,
+                },
+                rest @ ..,
+            ] => {
+                self.rest = rest;
+                Ok(*place)
+            }
+            _ => Err(self.unexpected()),
+        }
+    }
+
+    /// A name, and its place.
+    pub fn expect_name(&mut self) -> Result<(Name, Place), Stop>
+        ensures { Gives (λ x. x) result self.new.rest.now (read_name self.old.rest.now) }
+    {
+        match self.rest {
+            [
+                Token {
+                    kind: TokenKind::Named(name),
+                    place,
+                },
+                rest @ ..,
+            ] => {
+                self.rest = rest;
+                Ok((*name, *place))
+            }
+            _ => Err(self.unexpected()),
+        }
+    }
+
+    /// A number, and its place.
+    pub fn expect_number(&mut self) -> Result<(i32, Place), Stop>
+        ensures { Gives (λ x. x) result self.new.rest.now (read_number self.old.rest.now) }
+    {
+        match self.rest {
+            [
+                Token {
+                    kind: TokenKind::Number(number),
+                    place,
+                },
+                rest @ ..,
+            ] => {
+                self.rest = rest;
+                Ok((*number, *place))
+            }
+            _ => Err(self.unexpected()),
+        }
+    }
+
+    /// An empty phrase, which has the place of the token behind it.
+    pub fn empty(&mut self) -> Result<Phrase, Stop>
+        ensures { Gives tree result self.new.rest.now (read_empty empty_at self.old.rest.now) }
+    {
+        match self.rest {
+            [token, ..] => Ok(Phrase {
+                place: token.place,
+                first: token.place,
+                kind: Kind::Empty,
+            }),
+            [] => Err(self.unexpected()),
+        }
+    }
+
+    /// `GOTO name | GO TO name`
+    #[tactic(auto, unfolding(algolw_grammar::specs::Reading::read_goto))]
+    pub fn jump(&mut self) -> Result<Phrase, Stop>
+        ensures { Gives tree result self.new.rest.now (read_goto self.old.rest.now) }
+    {
+        if self.at_word(Word::Goto) {
+            let first = self.expect_word(Word::Goto)?;
+            let label = self.expect_name()?;
+            Ok(jump_to(first, label))
+        } else {
+            let first = self.expect_word(Word::Go)?;
+            self.expect_word(Word::To)?;
+            let label = self.expect_name()?;
+            Ok(jump_to(first, label))
+        }
+    }
+
+    /// `name ":"`, where it stands here.
+    fn label(&mut self) -> Option<(Name, Place)>
+        ensures { ReadsLabel result self.old.rest.now self.new.rest.now }
+    {
+        let [name, behind @ ..] = self.rest else {
+            return None;
+        };
+        let [colon, rest @ ..] = behind else {
+            return None;
+        };
+        let label = label_of(name, colon)?;
+        self.rest = rest;
+        Some(label)
+    }
+
+    /// `{ name ":" }`
+    pub fn labels(&mut self) -> Result<Names, Stop>
+        ensures { ReadsLabels result self.old.rest.now self.new.rest.now }
+    {
+        let mut labels = Vec::new(self.alloc);
+        'turns: while let Some(label) = self.label() {
+            labels.push(label)?;
+        }
+        Ok(labels)
+    }
+}
+
+/// How many levels of nesting are left inside one of them, where one is left.
+pub fn inside(room: u32) -> Option<u32>
+    ensures { MatchOption result (room ≡ 0) (λ left. room ≡ suc left) }
+{
+    room.checked_sub(1)
+}
+
+/// The label that a name and a colon are.
+fn label_of(name: &Token, colon: &Token) -> Option<(Name, Place)>
+    ensures { result ≡ label_taken name.now colon.now }
+{
+    match &name.kind {
+        TokenKind::Named(label) if is_symbol(&colon.kind, Symbol::Colon) => {
+            Some((*label, name.place))
+        }
+        _ => None,
+    }
+}
+
+/// A jump to a label, which begins at a place.
+fn jump_to(first: Place, label: (Name, Place)) -> Phrase
+    ensures { tree result ≡ goto_of (first, label) }
+{
+    Phrase {
+        place: label.1,
+        first,
+        kind: Kind::Goto(label.0),
+    }
+}

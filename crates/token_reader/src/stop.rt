@@ -1,0 +1,32 @@
+ghost use Rattle.std.specs.Prelude.{◌≡◌};
+ghost use Rattle.token_reader.specs.declared.stop.Stop.TheVariants.{Memory};
+
+use std::alloc::{AllocError, AllocFailed};
+use value_ops::Place;
+
+/// Why reading stopped, and at which place, where a token is left.
+#[derive(Drop)]
+pub enum Stop {
+    /// Memory is wanting.
+    Memory,
+    /// The first token that is left doesn't go on.
+    Unexpected(Option<Place>),
+    /// The first token that is left begins nesting beyond the limit.
+    TooDeep(Option<Place>),
+}
+
+impl From<AllocError> for Stop {
+    ghost from_gives = { λ _ e. e ≡ Memory };
+
+    fn from(_error: AllocError) -> Stop {
+        Stop::Memory
+    }
+}
+
+impl<T: Drop> From<AllocFailed<T>> for Stop {
+    ghost from_gives = { λ _ e. e ≡ Memory };
+
+    fn from(_error: AllocFailed<T>) -> Stop {
+        Stop::Memory
+    }
+}
