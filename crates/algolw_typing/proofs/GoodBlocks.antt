@@ -27,12 +27,12 @@ same_decls around path (decl_and d decls) = same_append (names_of_decls decls) (
 abbrev pub scope_of : Scopes → Decls → Items → Scope Known
 scope_of path decls items = meanings path (names_of_block decls items ∷ path) decls ++ label_entries items
 
-same_block : (path : Scopes) (decls : Decls) (items : Items) → SameNames (names_of_block decls items) (scope_of path decls items)
+pub same_block : (path : Scopes) (decls : Decls) (items : Items) → SameNames (names_of_block decls items) (scope_of path decls items)
 same_block path decls items = same_append (label_entries items) (label_entries items) (same_decls path (names_of_block decls items ∷ path) decls) (same_labels items)
 
 -- declarations without faults
 
-none_same : {a b : List Diagnostic} → a ≡ b → NoFaults b → NoFaults a
+pub none_same : {a b : List Diagnostic} → a ≡ b → NoFaults b → NoFaults a
 none_same e h = subst NoFaults (sym e) h
 
 good_decl : {a b : Scope Known} (around path : Scopes) (d : Decl) → SameNames a b → NoFaults (typed_decl around (b ∷ path) d).inside → GoodScope (meanings_of around (a ∷ path) d)

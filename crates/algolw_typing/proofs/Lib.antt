@@ -2,13 +2,13 @@ mod Declarations
 mod FaultOrder
 mod NameTypes
 mod KeptTrees
-mod Decided
+pub mod Decided
 mod DecidedNames
-mod GoodScopes
-mod GoodBlocks
-mod SoundOuts
+pub mod GoodScopes
+pub mod GoodBlocks
+pub mod SoundOuts
 mod SoundParts
-mod WholeTrees
+pub mod WholeTrees
 mod KnownTypes
 mod KnownNames
 mod KnownScopes

@@ -195,7 +195,11 @@ either_given false w x y i j h = j h
 array_fine : (p : Place) (w : Wanted) (t : ValueType) (n : ℕ) (parts : List Part) (o : Out) → Fine o → (NoFaults o.inside → ArePlain parts) → StandsForMore (typed.kind o.node)
     → NoFaults (array_given p w t n parts o).inside → SoundGiven w (array_given p w t n parts o)
 array_fine p phrase_wanted t n parts o i j m h = phrase_fine phrase_wanted true o i h
-array_fine p none_wanted t n parts o i j m h = phrase_fine none_wanted true o i h
+array_fine p none_wanted t n parts o i j m h =
+    let v = subarray_row p n parts in
+    either_given (has_star parts) none_wanted (subarray_given none_wanted t parts v o) (phrase_given true o)
+    (subarray_fine none_wanted t parts v o (λ k. k) i (λ none. subarray_decided p n parts (j none)) m)
+    (phrase_fine none_wanted true o i) h
 array_fine p (formal_wanted f) t n parts o i j m h =
     let v = subarray_row p n parts in
     either_given (has_star parts) (formal_wanted f) (subarray_given (formal_wanted f) t parts v o) (phrase_given true o)

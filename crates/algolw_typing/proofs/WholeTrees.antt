@@ -25,7 +25,7 @@ FineDecl d = NoFaults d.inside → DeclIsWhole d.decl
 -- ---- the parts of a tree
 
 mutual
-  phrase_whole : (path : Scopes) → GoodPath path → (a : tree.Phrase) → Fine (typed_phrase path a)
+  pub phrase_whole : (path : Scopes) → GoodPath path → (a : tree.Phrase) → Fine (typed_phrase path a)
   phrase_whole path g (tree.At p f k) = kind_whole path g p f k
 
   kind_whole : (path : Scopes) → GoodPath path → (p f : Place) (k : tree.Kind) → Fine (typed_kind path p f k)

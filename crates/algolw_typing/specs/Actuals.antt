@@ -166,11 +166,10 @@ stars [] = 0
 stars (a_star ∷ parts) = suc (stars parts)
 stars (part ∷ parts) = stars parts
 
--- an array with a list that holds a `*` is read as an array where an actual stands for a formal, or may
+-- an array with a list that holds a `*` is read as an array where it is an actual
 abbrev pub is_subarray : Wanted → List Part → Bool
-is_subarray (formal_wanted f) parts = has_star parts
-is_subarray any_wanted parts = has_star parts
-is_subarray w parts = false
+is_subarray phrase_wanted parts = false
+is_subarray w parts = has_star parts
 
 -- Int of each that is no `*`
 abbrev pub subscripts : Place → List Part → Verdict → Verdict

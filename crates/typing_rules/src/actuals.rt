@@ -360,11 +360,11 @@ impl<'a> Wanted<'a> {
         }
     }
 
-    /// Whether an array with this list is read as an array, since it stands for a formal or may.
+    /// Whether an array with this list is read as an array, since it is an actual.
     pub fn is_subarray(self, parts: &[Part<'a>]) -> bool
         ensures { result ≡ actuals.is_subarray (view.wanted self.entry) (map view.part parts.now) }
     {
-        matches!(self, Wanted::Formal(_) | Wanted::Anything) && has_star(parts)
+        !matches!(self, Wanted::Phrase) && has_star(parts)
     }
 }
 
