@@ -13,7 +13,7 @@ use Rattle.algolw_tree.specs.View.{tree, link_tree}
 use Rattle.algolw_typing.specs.Rows.{link_row}
 use Rattle.algolw_typing.specs.Scopes.{Scopes}
 use Rattle.algolw_typing.specs.Typed as typed
-use Rattle.algolw_typing.specs.Typing.{Out, PhrasesOut, LinksOut, faults, onward, link_verdict, link_out, if_else_out, typed_phrase, typed_kind, typed_phrases, typed_links}
+use Rattle.algolw_typing.specs.Typing.{Out, PhrasesOut, LinksOut, faults, onward, link_verdict, link_out, if_else_out, negated_out, absolute_out, signed_out, assert_out, typed_phrase, typed_kind, typed_phrases, typed_links}
 use Rattle.algolw_typing.specs.Verdicts.{Verdict, part, type_of}
 use Rattle.typing_rules.specs.View as view
 use Rattle.phrase_checker.specs.declared.checker.Checker.{Checker}
@@ -24,6 +24,9 @@ use Rattle.typed_drafts.specs.DraftView.{draft_view}
 use Rattle.typed_drafts.specs.DraftParts.{link_view}
 use Rattle.typed_phrases.specs.Found.{Finds, found_view}
 use Rattle.typed_phrases.specs.FoundParts.{given_view}
+use Rattle.typed_phrases.specs.Prefixes.{prefixed, prefixed_out}
+use Rattle.typed_phrases.specs.declared.prefixes.Prefix.{Prefix}
+use Rattle.typed_phrases.specs.declared.prefixes.Prefix.TheVariants.{Not, Abs, Sign, Assert}
 use Rattle.phrase_checker.specs.Checked.{Checked, Noted}
 use Rattle.algolw_tree.specs.View.{optional_tree}
 use Rattle.declared_names.proofs.Placing.{next}
@@ -44,6 +47,35 @@ seen o t = at_out o.inside (view.verdict t.verdict) (draft_view t.draft.now)
 
 pub seen_is : (a b : Checker) (t : Typed) (o : Out) → Noted a b t o → seen o t ≡ o
 seen_is a b t o h = ap (λ (v : Verdict). at_out o.inside v (draft_view t.draft.now)) h.verdict ∙ ap (at_out o.inside o.verdict) h.node
+
+-- a phrase of one part
+one_found : (build : Out → Out) → ((x : Out) → (build x).inside ≡ faults x) → (s0 s1 : Checker) (tx t : Typed) (x : Out) → Noted s0 s1 tx x → Finds t (build (seen x tx)) → Checked s0 s1 t (build x)
+one_found build inside s0 s1 tx t x hx h =
+    let whole : build (seen x tx) ≡ build x = ap build (seen_is s0 s1 tx x hx) in
+    record {
+      faults = hx.faults ∙ ap (λ fs. s0.faults.items ++ fs) (sym (inside x));
+      verdict = h.verdict ∙ ap (λ (o : Out). o.verdict) whole;
+      node = h.node ∙ ap (λ (o : Out). o.node) whole;
+    }
+
+-- an operand behind what stands before it
+prefixed_is : (path : Scopes) (p f : Place) (x : Prefix) (a : Tree.Phrase) → typed_kind path p f (prefixed x a) ≡ prefixed_out p f x (typed_phrase path a)
+prefixed_is path p f Not a = refl
+prefixed_is path p f Abs a = refl
+prefixed_is path p f (Sign minus) a = refl
+prefixed_is path p f Assert a = refl
+
+prefixed_found : (p f : Place) (x : Prefix) (s0 s1 : Checker) (tx t : Typed) (o : Out) → Noted s0 s1 tx o → Finds t (prefixed_out p f x (found_view tx)) → Checked s0 s1 t (prefixed_out p f x o)
+prefixed_found p f Not s0 s1 tx t o h found = one_found (negated_out p f) (λ y. refl) s0 s1 tx t o h found
+prefixed_found p f Abs s0 s1 tx t o h found = one_found (absolute_out p f) (λ y. refl) s0 s1 tx t o h found
+prefixed_found p f (Sign minus) s0 s1 tx t o h found = one_found (signed_out p f minus) (λ y. refl) s0 s1 tx t o h found
+prefixed_found p f Assert s0 s1 tx t o h found = one_found (assert_out p f) (λ y. refl) s0 s1 tx t o h found
+
+pub prefixed_checked : {E : Type 0} (r : Result Typed E) (path : Scopes) (p f : Place) (x : Prefix) (s0 s1 : Checker) (tx : Typed) (a : Tree.Phrase) → Noted s0 s1 tx (typed_phrase path a)
+    → IfOk r (λ t. Finds t (prefixed_out p f x (found_view tx))) → IsChecked r s0 s1 (typed_kind path p f (prefixed x a))
+prefixed_checked r path p f x s0 s1 tx a h found =
+    subst (λ (o : Out). IsChecked r s0 s1 o) (sym (prefixed_is path p f x a))
+    (IfOk-weaker r (λ (t : Typed). Finds t (prefixed_out p f x (found_view tx))) (λ (t : Typed). Checked s0 s1 t (prefixed_out p f x (typed_phrase path a))) (λ t g. prefixed_found p f x s0 s1 tx t (typed_phrase path a) h g) found)
 
 pub three_behind : (a b c d : List Diagnostic) → a ++ b ++ c ++ d ≡ a ++ (b ++ c ++ d)
 three_behind a b c d = simp append_assoc

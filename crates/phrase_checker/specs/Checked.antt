@@ -47,6 +47,12 @@ pub record Noted (old new : Checker) (t : Typed) (o : Out) : Type 0 where
   pub verdict : view.verdict t.verdict ≡ o.verdict
   pub node : draft_view t.draft.now ≡ o.node
 
+-- two phrases, the one behind the other
+pub record PairChecked (path : Scopes) (old new : Checker) (both : Typed × Typed) (a b : tree.Phrase) : Type 0 where
+  pub between : Checker
+  pub first : Noted old between both.0 (typed_phrase path a)
+  pub second : Noted between new both.1 (typed_phrase path b)
+
 -- the step of a FOR, where there is one
 abbrev pub StepChecked : Scopes → Checker → Checker → Option Typed → tree.Perhaps → Type 0
 StepChecked path old new None tree.Missing = new.faults.items ≡ old.faults.items

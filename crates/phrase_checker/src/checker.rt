@@ -16,8 +16,9 @@ ghost use Rattle.typing_rules.specs.MeaningView as meaning_view;
 ghost use Rattle.typing_rules.specs.View as view;
 ghost use Rattle.declared_names.specs.Blocks.{DeclFound, bounds_view, decl_bounds, each_bounds};
 ghost use Rattle.typed_phrases.specs.Items.{item_end};
-ghost use Rattle.phrase_checker.specs.Checked.{ActualChecked, BoundChecked, BoundsChecked, Checked, DeclsChecked, ItemChecked, ItemsChecked, LinksChecked, ListChecked, Noted, PartsChecked, PhrasesChecked, RangeChecked, StepChecked, kind_at};
+ghost use Rattle.phrase_checker.specs.Checked.{ActualChecked, BoundChecked, BoundsChecked, Checked, DeclsChecked, ItemChecked, ItemsChecked, LinksChecked, ListChecked, Noted, PairChecked, PartsChecked, PhrasesChecked, RangeChecked, StepChecked, kind_at};
 ghost use Rattle.typed_phrases.specs.FrontViews.{front_view};
+ghost use Rattle.typed_phrases.specs.Prefixes as prefixes;
 ghost use Rattle.typed_phrases.specs.Fronts.{actual_step, list_step};
 ghost use Rattle.declared_names.specs.KnownPaths.{path_view};
 ghost use Rattle.algolw_tree.specs.View.{optional_tree};
@@ -33,10 +34,10 @@ use declared_names::{
 use std::alloc::{AllocError, Global};
 use typed_drafts::{Draft, DraftBound, DraftDecl, DraftKind};
 use typed_phrases::{
-    Front, Items, Links, Lists, Parts, Phrases, Range, Spot, Typed, absolute, asserted, assigned,
-    block, case_do, case_value, chained, control_scope, empty, for_list, for_range, if_else,
-    if_then, is_class, item_verdict, jump, leaf, left_of, named, negated, noted, quoted, read,
-    relation, signed, while_do,
+    Front, Items, Links, Lists, Parts, Phrases, Prefix, Range, Spot, Typed, assigned, block,
+    case_do, case_value, chained, control_scope, empty, for_list, for_range, if_else, if_then,
+    is_class, item_verdict, jump, leaf, left_of, named, noted, prefixed, quoted, read, relation,
+    while_do,
 };
 use typing_rules::{ClassSet, NoType, Reading, ValueType, Verdict, Wanted, program_row};
 use value_ops::{Diagnostic, Name, Place};
@@ -90,9 +91,11 @@ impl<'a> Checker<'a> {
             Kind::Number(number) => leaf(spot, ValueType::Integer, DraftKind::Number(*number)),
             Kind::Truth(truth) => leaf(spot, ValueType::Logical, DraftKind::Truth(*truth)),
             Kind::BitsLit(bits) => leaf(spot, ValueType::Bits, DraftKind::BitsLit(*bits)),
-            Kind::Negated(operand) => negated(spot, self.phrase(path, operand)?),
-            Kind::Abs(operand) => absolute(spot, self.phrase(path, operand)?),
-            Kind::Signed(minus, operand) => signed(spot, *minus, self.phrase(path, operand)?),
+            Kind::Negated(operand) => self.prefixed(path, spot, Prefix::Not, operand),
+            Kind::Abs(operand) => self.prefixed(path, spot, Prefix::Abs, operand),
+            Kind::Signed(minus, operand) => {
+                self.prefixed(path, spot, Prefix::Sign(*minus), operand)
+            }
             Kind::Chain(first, links) => self.chain(path, spot, first, links),
             Kind::Relation(op, left, right) => self.relation(path, spot, *op, left, right),
             Kind::IfThen(condition, then, otherwise) => {
@@ -101,7 +104,7 @@ impl<'a> Checker<'a> {
             Kind::CaseValue(subject, values) => self.case_value(path, spot, subject, values),
             Kind::CaseDo(subject, parts) => self.case_do(path, spot, subject, parts),
             Kind::WhileDo(condition, body) => self.while_do(path, spot, condition, body),
-            Kind::Assert(condition) => asserted(spot, self.phrase(path, condition)?),
+            Kind::Assert(condition) => self.prefixed(path, spot, Prefix::Assert, condition),
             Kind::Quoted(text) => quoted(spot, *text),
             Kind::Goto(name) => jump(spot, path, name),
             Kind::IsClass(operand, name, place) => {
@@ -117,6 +120,38 @@ impl<'a> Checker<'a> {
         }
     }
 
+    /// Checks two phrases, the one behind the other.
+    #[cycle(phrases)]
+    fn pair(
+        &mut self,
+        path: &KnownPath<'_, 'a>,
+        first: &Phrase,
+        second: &Phrase,
+    ) -> Result<(Typed<'a>, Typed<'a>), AllocError>
+        ensures { IfOk result (λ both.
+            PairChecked (path_view path.now) self.old self.new both (tree first.now) (tree second.now)) }
+    {
+        let first = self.phrase(path, first)?;
+        let second = self.phrase(path, second)?;
+        Ok((first, second))
+    }
+
+    /// Checks an operand and what stands before it.
+    #[cycle(phrases)]
+    fn prefixed(
+        &mut self,
+        path: &KnownPath<'_, 'a>,
+        spot: Spot<'a>,
+        prefix: Prefix,
+        operand: &Phrase,
+    ) -> Result<Typed<'a>, AllocError>
+        ensures { IfOk result (λ t. Checked self.old self.new t
+            (kind_at path.now spot.entry (prefixes.prefixed prefix (tree operand.now)))) }
+    {
+        let operand = self.phrase(path, operand)?;
+        prefixed(spot, prefix, operand)
+    }
+
     /// Checks a comparison.
     #[cycle(phrases)]
     fn relation(
@@ -130,8 +165,7 @@ impl<'a> Checker<'a> {
         ensures { IfOk result (λ t. Checked self.old self.new t
             (kind_at path.now spot.entry (kinds.Relation op (tree left.now) (tree right.now)))) }
     {
-        let left = self.phrase(path, left)?;
-        let right = self.phrase(path, right)?;
+        let (left, right) = self.pair(path, left, right)?;
         relation(spot, op, left, right)
     }
 
@@ -147,8 +181,7 @@ impl<'a> Checker<'a> {
         ensures { IfOk result (λ t. Checked self.old self.new t
             (kind_at path.now spot.entry (kinds.WhileDo (tree condition.now) (tree body.now)))) }
     {
-        let condition = self.phrase(path, condition)?;
-        let body = self.phrase(path, body)?;
+        let (condition, body) = self.pair(path, condition, body)?;
         while_do(spot, condition, body)
     }
 
@@ -165,8 +198,7 @@ impl<'a> Checker<'a> {
         ensures { IfOk result (λ t. Checked self.old self.new t
             (kind_at path.now spot.entry (kinds.IfThen (tree condition.now) (tree then.now) (optional_tree otherwise.now)))) }
     {
-        let condition = self.phrase(path, condition)?;
-        let then = self.phrase(path, then)?;
+        let (condition, then) = self.pair(path, condition, then)?;
         match otherwise {
             None => if_then(spot, condition, then),
             Some(otherwise) => if_else(spot, condition, then, self.phrase(path, otherwise)?),
@@ -292,8 +324,7 @@ impl<'a> Checker<'a> {
             (kind_at path.now spot.entry (kinds.Assign (tree target.now) (tree value.now)))) }
     {
         let left = left_of(path, target);
-        let target = self.phrase(path, target)?;
-        let value = self.phrase(path, value)?;
+        let (target, value) = self.pair(path, target, value)?;
         assigned(spot, left, target, value)
     }
 
@@ -570,8 +601,7 @@ impl<'a> Checker<'a> {
             (typed_phrase (path_view path.now) (tree bound.now.lower))
             (typed_phrase (path_view path.now) (tree bound.now.upper))) }
     {
-        let lower = self.phrase(path, &bound.lower)?;
-        let upper = self.phrase(path, &bound.upper)?;
+        let (lower, upper) = self.pair(path, &bound.lower, &bound.upper)?;
         self.note(bound_verdict(bound.place, lower.verdict, upper.verdict))?;
         Ok(DraftBound {
             place: bound.place,

@@ -4,3 +4,4 @@ pub mod Fronts
 pub mod FrontViews
 pub mod Items
 pub mod Ranges
+pub mod Prefixes

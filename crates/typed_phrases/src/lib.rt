@@ -6,17 +6,16 @@ mod assignments;
 mod designators;
 mod items;
 mod making;
+mod prefixes;
 mod statements;
 
 pub use actuals::{Given, Parts, read};
 pub use assignments::{assigned, left_of};
 pub use designators::{Front, Lists, named};
 pub use items::{Items, block, item_verdict};
-pub use making::{
-    Links, Phrases, Spot, Typed, absolute, chained, empty, leaf, negated, noted, quoted, relation,
-    signed,
-};
+pub use making::{Links, Phrases, Spot, Typed, chained, empty, leaf, noted, quoted, relation};
+pub use prefixes::{Prefix, prefixed};
 pub use statements::{
-    Range, asserted, case_do, case_value, control_scope, for_list, for_range, if_else, if_then,
-    is_class, jump, while_do,
+    Range, case_do, case_value, control_scope, for_list, for_range, if_else, if_then, is_class,
+    jump, while_do,
 };

@@ -144,7 +144,7 @@ fn negated_verdict<'a>(place: Place, operand: Verdict<'a>) -> Verdict<'a>
 }
 
 /// A phrase behind `~`.
-pub fn negated<'a>(spot: Spot<'a>, operand: Typed<'a>) -> Result<Typed<'a>, AllocError>
+pub(crate) fn negated<'a>(spot: Spot<'a>, operand: Typed<'a>) -> Result<Typed<'a>, AllocError>
     ensures { IfOk result (λ t. Finds t
         (rules.negated_out spot.entry.place spot.entry.first (found_view operand.entry))) }
 {
@@ -197,7 +197,7 @@ fn integer_verdict<'a>(place: Place, operand: Verdict<'a>) -> Verdict<'a>
 }
 
 /// The absolute value of a phrase.
-pub fn absolute<'a>(spot: Spot<'a>, operand: Typed<'a>) -> Result<Typed<'a>, AllocError>
+pub(crate) fn absolute<'a>(spot: Spot<'a>, operand: Typed<'a>) -> Result<Typed<'a>, AllocError>
     ensures { IfOk result (λ t. Finds t
         (rules.absolute_out spot.entry.place spot.entry.first (found_view operand.entry))) }
 {
@@ -206,7 +206,11 @@ pub fn absolute<'a>(spot: Spot<'a>, operand: Typed<'a>) -> Result<Typed<'a>, All
 }
 
 /// A phrase behind a sign.
-pub fn signed<'a>(spot: Spot<'a>, minus: bool, operand: Typed<'a>) -> Result<Typed<'a>, AllocError>
+pub(crate) fn signed<'a>(
+    spot: Spot<'a>,
+    minus: bool,
+    operand: Typed<'a>,
+) -> Result<Typed<'a>, AllocError>
     ensures { IfOk result (λ t. Finds t
         (rules.signed_out spot.entry.place spot.entry.first minus (found_view operand.entry))) }
 {

@@ -56,7 +56,7 @@ fn assert_verdict<'a>(place: Place, condition: Verdict<'a>) -> Verdict<'a>
 }
 
 /// An ASSERT.
-pub fn asserted<'a>(spot: Spot<'a>, condition: Typed<'a>) -> Result<Typed<'a>, AllocError>
+pub(crate) fn asserted<'a>(spot: Spot<'a>, condition: Typed<'a>) -> Result<Typed<'a>, AllocError>
     ensures { IfOk result (λ t. Finds t
         (rules.assert_out spot.entry.place spot.entry.first (found_view condition.entry))) }
 {

@@ -25,13 +25,20 @@ use Rattle.phrase_checker.proofs.ForSteps.{range_checked, list_checked}
 use Rattle.phrase_checker.proofs.ListSteps as lists
 use Rattle.algolw_tree.proofs.Rows.{named_at, chain_at, case_value_at, case_do_at, for_list_at, block_at, actuals_at, array_at}
 use Rattle.algolw_tree.proofs.Sizes.{size, size_kind, size_phrases, size_links, size_lists, size_listing, size_actuals, size_actual, size_items, size_bounds, size_decls, size_decl, item_smaller}
-use Rattle.phrase_checker.proofs.Steps.{by_kind, if_else_checked, phrases_step, links_step}
+use Rattle.phrase_checker.proofs.Steps.{by_kind, if_else_checked, prefixed_checked, phrases_step, links_step}
 use Rattle.phrase_checker.proofs.checker.Checker.+phrases.Goals as goal
 
 pub conditional-returns-in_ok-phrase-in-Some : goal.conditional-returns-in_ok-phrase-in-Some
 conditional-returns-in_ok-phrase-in-Some t c =
-    if_else_checked c.if_else.result (path_view c.args.path.now) c.args.spot.place c.args.spot.first c.args.self.now c.phrase.new.self c.phrase-2.new.self c.phrase-in-Some.new.self c.in_ok-condition.condition c.in_ok-then.then c.in_ok-phrase-in-Some.field-0 (tree_of c.args.condition.now) (tree_of c.args.then.now) _ c.in-Some.otherwise c.deref.result.now c.in-Some.is c.deref.ensures
-    c.in_ok-condition.ensures c.in_ok-then.ensures c.in_ok-phrase-in-Some.ensures c.if_else.ensures
+    if_else_checked c.if_else.result (path_view c.args.path.now) c.args.spot.place c.args.spot.first c.args.self.now c.in_ok-condition.ensures.between c.pair.new.self c.phrase.new.self _ _ c.in_ok-phrase-in-Some.field-0 (tree_of c.args.condition.now) (tree_of c.args.then.now) _ c.in-Some.otherwise c.deref.result.now c.in-Some.is c.deref.ensures
+    c.in_ok-condition.ensures.first c.in_ok-condition.ensures.second c.in_ok-phrase-in-Some.ensures c.if_else.ensures
+
+pub pair-returns : goal.pair-returns
+pair-returns t c = record { between = c.phrase.new.self; first = c.in_ok-first.ensures; second = c.in_ok-second.ensures }
+
+pub prefixed-returns : goal.prefixed-returns
+prefixed-returns t c =
+    prefixed_checked c.prefixed.result (path_view c.args.path.now) c.args.spot.place c.args.spot.first c.args.prefix c.args.self.now c.phrase.new.self c.in_ok-operand.operand (tree_of c.args.operand.now) c.in_ok-operand.ensures c.prefixed.ensures
 
 pub inside-chain-requires : goal.inside-chain-requires
 inside-chain-requires t c = search (rules, ap size_kind (chain_at _ c.in-Chain.first c.in-Chain.links _ _ c.in-Chain.is c.deref-in-Chain.ensures c.deref-in-Chain-2.ensures.value))

@@ -24,34 +24,40 @@ use Rattle.phrase_checker.proofs.Turns.{PhrasesSoFar, LinksSoFar}
 use Rattle.phrase_checker.proofs.checker.Checker.+phrases.Given as goal
 
 abbrev pub decreases-phrase : goal.decreases-phrase
-decreases-phrase l = suc (2 * size (tree l.phrase.now))
+decreases-phrase l = suc (3 * size (tree l.phrase.now))
 
 abbrev pub decreases-inside : goal.decreases-inside
-decreases-inside l = 2 * size (tree l.phrase.now)
+decreases-inside l = 3 * size (tree l.phrase.now)
+
+abbrev pub decreases-prefixed : goal.decreases-prefixed
+decreases-prefixed l = suc (suc (3 * size (tree l.operand.now)))
+
+abbrev pub decreases-pair : goal.decreases-pair
+decreases-pair l = 3 * suc (size (tree l.first.now) + size (tree l.second.now))
 
 abbrev pub decreases-relation : goal.decreases-relation
-decreases-relation l = 2 * suc (size (tree l.left.now) + size (tree l.right.now))
+decreases-relation l = suc (3 * suc (size (tree l.left.now) + size (tree l.right.now)))
 
 abbrev pub decreases-while_do : goal.decreases-while_do
-decreases-while_do l = 2 * suc (size (tree l.condition.now) + size (tree l.body.now))
+decreases-while_do l = suc (3 * suc (size (tree l.condition.now) + size (tree l.body.now)))
 
 abbrev pub decreases-conditional : goal.decreases-conditional
-decreases-conditional l = 2 * suc (size (tree l.condition.now) + size (tree l.then.now) + size_perhaps (optional_tree l.otherwise.now))
+decreases-conditional l = suc (3 * suc (size (tree l.condition.now) + size (tree l.then.now) + size_perhaps (optional_tree l.otherwise.now)))
 
 abbrev pub decreases-chain : goal.decreases-chain
-decreases-chain l = 2 * suc (size (tree l.first.now) + size_links (links_of (map link_tree l.links.now)))
+decreases-chain l = 3 * suc (size (tree l.first.now) + size_links (links_of (map link_tree l.links.now)))
 
 abbrev pub decreases-links : goal.decreases-links
-decreases-links l = 2 * size_links (links_of (map link_tree l.links.now))
+decreases-links l = 3 * size_links (links_of (map link_tree l.links.now))
 
 abbrev pub decreases-case_value : goal.decreases-case_value
-decreases-case_value l = 2 * suc (size (tree l.subject.now) + size_phrases (phrases_of (map tree l.values.now)))
+decreases-case_value l = 3 * suc (size (tree l.subject.now) + size_phrases (phrases_of (map tree l.values.now)))
 
 abbrev pub decreases-case_do : goal.decreases-case_do
-decreases-case_do l = 2 * suc (size (tree l.subject.now) + size_phrases (phrases_of (map tree l.parts.now)))
+decreases-case_do l = 3 * suc (size (tree l.subject.now) + size_phrases (phrases_of (map tree l.parts.now)))
 
 abbrev pub decreases-phrases : goal.decreases-phrases
-decreases-phrases l = 2 * size_phrases (phrases_of (map tree l.phrases.now))
+decreases-phrases l = 3 * size_phrases (phrases_of (map tree l.phrases.now))
 
 abbrev pub invariant-phrases-loop-phrase : goal.invariant-phrases-loop-phrase
 invariant-phrases-loop-phrase l = PhrasesSoFar l.initial.self.faults.items l.self.faults.items (map given_view l.found.gives.items) (map draft_view l.found.drafts.items) (typed_phrases (path_view l.path) (phrases_of (map tree l.phrases))) (typed_phrases (path_view l.path) (phrases_of (map tree (drop l.phrase-index l.phrases))))
@@ -60,67 +66,67 @@ abbrev pub invariant-links-loop-link : goal.invariant-links-loop-link
 invariant-links-loop-link l = LinksSoFar l.initial.self.faults.items l.self.faults.items (map link_view l.found.drafts.items) (typed_links (path_view l.path) (view.verdict l.initial.found.verdict) (links_of (map link_tree l.links))) (typed_links (path_view l.path) (view.verdict l.found.verdict) (links_of (map link_tree (drop l.link-index l.links))))
 
 abbrev pub decreases-is_class : goal.decreases-is_class
-decreases-is_class l = 2 * suc (size (tree l.operand.now))
+decreases-is_class l = 3 * suc (size (tree l.operand.now))
 
 abbrev pub decreases-assign : goal.decreases-assign
-decreases-assign l = 2 * suc (size (tree l.target.now) + size (tree l.value.now))
+decreases-assign l = suc (3 * suc (size (tree l.target.now) + size (tree l.value.now)))
 
 abbrev pub decreases-controlled : goal.decreases-controlled
-decreases-controlled l = 2 * suc (size (tree l.body.now))
+decreases-controlled l = 3 * suc (size (tree l.body.now))
 
 abbrev pub decreases-for_range : goal.decreases-for_range
-decreases-for_range l = suc (2 * suc (size (tree l.start.now) + size_perhaps (optional_tree l.step.now) + size (tree l.limit.now) + size (tree l.body.now)))
+decreases-for_range l = suc (3 * suc (size (tree l.start.now) + size_perhaps (optional_tree l.step.now) + size (tree l.limit.now) + size (tree l.body.now)))
 
 abbrev pub decreases-range : goal.decreases-range
-decreases-range l = 2 * suc (size (tree l.start.now) + size_perhaps (optional_tree l.step.now) + size (tree l.limit.now))
+decreases-range l = 3 * suc (size (tree l.start.now) + size_perhaps (optional_tree l.step.now) + size (tree l.limit.now))
 
 abbrev pub decreases-step : goal.decreases-step
-decreases-step l = 2 * size_perhaps (optional_tree l.step.now)
+decreases-step l = 3 * size_perhaps (optional_tree l.step.now)
 
 abbrev pub decreases-for_list : goal.decreases-for_list
-decreases-for_list l = suc (2 * suc (size_phrases (phrases_of (map tree l.values.now)) + size (tree l.body.now)))
+decreases-for_list l = suc (3 * suc (size_phrases (phrases_of (map tree l.values.now)) + size (tree l.body.now)))
 
 abbrev pub decreases-named : goal.decreases-named
-decreases-named l = 2 * suc (size_lists (lists_of (map list_tree l.lists.now)))
+decreases-named l = 3 * suc (size_lists (lists_of (map list_tree l.lists.now)))
 
 abbrev pub decreases-list : goal.decreases-list
-decreases-list l = 2 * size_listing (list_tree l.list.now)
+decreases-list l = 3 * size_listing (list_tree l.list.now)
 
 abbrev pub decreases-parts : goal.decreases-parts
-decreases-parts l = 2 * size_actuals (actuals_of (map actual_tree l.actuals.now))
+decreases-parts l = 3 * size_actuals (actuals_of (map actual_tree l.actuals.now))
 
 abbrev pub decreases-actual : goal.decreases-actual
-decreases-actual l = 2 * size_actual (actual_tree l.actual.now)
+decreases-actual l = 3 * size_actual (actual_tree l.actual.now)
 
 abbrev pub decreases-block : goal.decreases-block
-decreases-block l = 2 * suc (suc (size_decls (decls_of (map decl_tree l.decls.now)) + size_items (items_of (map item_tree l.items.now))))
+decreases-block l = 3 * suc (suc (size_decls (decls_of (map decl_tree l.decls.now)) + size_items (items_of (map item_tree l.items.now))))
 
 abbrev pub decreases-meanings : goal.decreases-meanings
-decreases-meanings l = 2 * size_decls (decls_of (map decl_tree l.decls.now))
+decreases-meanings l = 3 * size_decls (decls_of (map decl_tree l.decls.now))
 
 abbrev pub decreases-decl_bounds : goal.decreases-decl_bounds
-decreases-decl_bounds l = suc (2 * size_decl (decl_tree l.decl.now))
+decreases-decl_bounds l = suc (3 * size_decl (decl_tree l.decl.now))
 
 abbrev pub decreases-bounds : goal.decreases-bounds
-decreases-bounds l = 2 * size_bounds (bounds_of (map bound_tree l.bounds.now))
+decreases-bounds l = 3 * size_bounds (bounds_of (map bound_tree l.bounds.now))
 
 abbrev pub decreases-bound : goal.decreases-bound
-decreases-bound l = 2 * suc (size (tree l.bound.now.lower) + size (tree l.bound.now.upper))
+decreases-bound l = suc (3 * suc (size (tree l.bound.now.lower) + size (tree l.bound.now.upper)))
 
 abbrev pub decreases-decls : goal.decreases-decls
-decreases-decls l = 2 * size_decls (decls_of (map decl_tree l.decls.now))
+decreases-decls l = 3 * size_decls (decls_of (map decl_tree l.decls.now))
 
 abbrev pub decreases-decl : goal.decreases-decl
-decreases-decl l = suc (2 * size_decl (decl_tree l.decl.now))
+decreases-decl l = suc (3 * size_decl (decl_tree l.decl.now))
 
 abbrev pub decreases-procedure : goal.decreases-procedure
-decreases-procedure l = 2 * size_decl (procedure_tree l.declared.now)
+decreases-procedure l = 3 * size_decl (procedure_tree l.declared.now)
 
 abbrev pub decreases-items : goal.decreases-items
-decreases-items l = suc (2 * size_items (items_of (map item_tree l.items.now)))
+decreases-items l = suc (3 * size_items (items_of (map item_tree l.items.now)))
 
 abbrev pub decreases-item : goal.decreases-item
-decreases-item l = 2 * suc (size (tree l.item.now.phrase))
+decreases-item l = 3 * suc (size (tree l.item.now.phrase))
 
 abbrev pub invariant-named-loop-list : goal.invariant-named-loop-list
 invariant-named-loop-list l =
