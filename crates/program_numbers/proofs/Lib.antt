@@ -1,6 +1,7 @@
 pub mod Making
 pub mod PlacePositions
 pub mod SetMaking
+pub mod SidesAlike
 pub mod ProgramRows
 pub mod NodeMaking
 pub mod ProcedureParts

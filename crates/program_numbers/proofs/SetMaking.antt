@@ -118,3 +118,12 @@ pub set_answered : {E : Type 0} (n : Numbering) (t u : Classes) (a : List ClassI
     → IfOk r (λ s. Makes n t u (λ ns. set_view ns s.0) places)
 set_answered n t u a places (Err e) number added is rising = tt
 set_answered n t u a places (Ok s) number added is rising = subst (λ v. Makes n t v (λ ns. set_view ns s.0) places) (sym added) (set_made n t a s places number is rising)
+
+-- a set that the table has is seen by its number in each later table
+pub set_known : (n : Numbering) (t : Classes) (s : ℕ) (places : List Place) → s < length t.sets → places_in n.classes (get_or t.sets s []) ≡ places → Makes n t t (λ ns. set_view ns s) places
+set_known n t s places within is = record {
+  classes = refl;
+  follows = follows_itself t.sets;
+  rise = λ r. r;
+  means = λ later f r. seen_later n t.sets later s places within (λ up. is) f r;
+}

@@ -5,8 +5,8 @@ ghost use Rattle.program_numbers.specs.Makes.{Makes};
 ghost use Rattle.program_numbers.specs.HoldsClasses.{HoldsClasses, field_in, named_class};
 
 use crate::numbering::Numbering;
+use crate::table_builder::TableBuilder;
 use block_scopes::{Field, FoundClass};
-use record_classes::ClassTable;
 use std::alloc::AllocError;
 use value_ops::{Name, SimpleType};
 
@@ -14,7 +14,7 @@ impl Numbering {
     /// The fields of a record class.
     fn fields(
         &self,
-        table: &mut ClassTable,
+        table: &mut TableBuilder,
         fields: &[Field],
     ) -> Result<Vec<(Name, SimpleType)>, AllocError>
         requires { FieldsKnow self.now.classes (map field_view fields.now) }
@@ -30,11 +30,11 @@ impl Numbering {
     }
 
     /// The table of record classes.
-    pub fn class_table(&self, classes: &[FoundClass]) -> Result<ClassTable, AllocError>
+    pub fn class_table(&self, classes: &[FoundClass]) -> Result<TableBuilder, AllocError>
         requires { ClassesKnow self.now.classes (map class_view classes.now) }
         ensures { IfOk result (λ table. HoldsClasses self.now table (map named_class (map class_view classes.now))) }
     {
-        let mut table = ClassTable::new(self.alloc);
+        let mut table = TableBuilder::new(self.alloc);
         for class in classes {
             let fields = self.fields(&mut table, &class.fields)?;
             if table.class_count() >= 65535 || fields.len() >= 4294967295 {

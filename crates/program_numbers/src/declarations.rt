@@ -8,8 +8,8 @@ ghost use Rattle.program_numbers.specs.Numbered.{FormalNumbered, GroupNumbered, 
 ghost use Rattle.program_numbers.specs.ProgramParts.{group_in};
 
 use crate::numbering::Numbering;
+use crate::table_builder::TableBuilder;
 use algolw_tree::{Targets, TypedClass, TypedFormal};
-use record_classes::ClassTable;
 use std::alloc::AllocError;
 use typed_drafts::{DraftClass, DraftFormal, Places};
 use typing_rules::ValueType;
@@ -19,7 +19,7 @@ impl Numbering {
     /// Formals that are declared together.
     fn formal(
         &self,
-        table: &mut ClassTable,
+        table: &mut TableBuilder,
         formal: &DraftFormal,
     ) -> Result<TypedFormal, AllocError>
         requires { FormalNumbered self.now (formal_view formal.now) }
@@ -39,7 +39,7 @@ impl Numbering {
     /// The formals of a procedure.
     pub fn formals(
         &self,
-        table: &mut ClassTable,
+        table: &mut TableBuilder,
         formals: &[DraftFormal],
     ) -> Result<Vec<TypedFormal>, AllocError>
         requires { KnowsFormals self.now.names self.now.classes (map formal_view formals.now) }
@@ -57,7 +57,7 @@ impl Numbering {
     /// Fields of a type.
     fn group(
         &self,
-        table: &mut ClassTable,
+        table: &mut TableBuilder,
         group: &(ValueType, Places),
     ) -> Result<(SimpleType, Targets), AllocError>
         requires { GroupNumbered self.now (group_view group.now) }
@@ -72,7 +72,7 @@ impl Numbering {
     /// The fields of a record class.
     fn groups(
         &self,
-        table: &mut ClassTable,
+        table: &mut TableBuilder,
         groups: &[(ValueType, Places)],
     ) -> Result<Vec<(SimpleType, Targets)>, AllocError>
         requires { KnowsGroups self.now.names self.now.classes (map group_view groups.now) }
@@ -90,7 +90,7 @@ impl Numbering {
     /// A record class.
     pub fn class_decl(
         &self,
-        table: &mut ClassTable,
+        table: &mut TableBuilder,
         class: &DraftClass,
     ) -> Result<TypedClass, AllocError>
         requires { DeclNumbered self.now (class_view class.now) }

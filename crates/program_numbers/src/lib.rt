@@ -7,5 +7,6 @@ mod nodes;
 mod numbering;
 mod place_numbers;
 mod programs;
+mod table_builder;
 
 pub use programs::number_program;

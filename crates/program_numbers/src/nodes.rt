@@ -10,11 +10,11 @@ ghost use Rattle.program_numbers.specs.Numbered.{NodeNumbered, KindNumbered, Per
 ghost use Rattle.program_numbers.specs.ProgramParts.{perhaps_in, link_in, list_in, item_in, bound_in};
 
 use crate::numbering::Numbering;
+use crate::table_builder::TableBuilder;
 use algolw_tree::{
     Node, NodeKind, RelOp, TypedActual, TypedBound, TypedDecl, TypedItem, TypedLink, TypedList,
     TypedListKind, TypedProc,
 };
-use record_classes::ClassTable;
 use std::alloc::AllocError;
 use typed_drafts::{
     Draft, DraftActual, DraftBound, DraftDecl, DraftItem, DraftKind, DraftLink, DraftList,
@@ -25,7 +25,7 @@ use value_ops::Place;
 impl Numbering {
     /// A phrase.
     #[cycle(nodes)]
-    pub fn node(&self, table: &mut ClassTable, draft: &Draft) -> Result<Node, AllocError>
+    pub fn node(&self, table: &mut TableBuilder, draft: &Draft) -> Result<Node, AllocError>
         requires { NodeNumbered self.now (draft_view draft.now) }
         ensures { IfOk result (λ made. Makes self.now table.old table.new (λ ns. program.node_view ns made)
             (draft_view draft.now)) }
@@ -44,7 +44,7 @@ impl Numbering {
 
     /// What a phrase is.
     #[cycle(nodes)]
-    fn kind(&self, table: &mut ClassTable, kind: &DraftKind) -> Result<NodeKind, AllocError>
+    fn kind(&self, table: &mut TableBuilder, kind: &DraftKind) -> Result<NodeKind, AllocError>
         requires { KindNumbered self.now (kind_view kind.now) }
         ensures { IfOk result (λ made. Makes self.now table.old table.new (λ ns. program.kind_view ns made)
             (kind_view kind.now)) }
@@ -86,7 +86,7 @@ impl Numbering {
 
     /// A phrase, behind a pointer.
     #[cycle(nodes)]
-    fn boxed(&self, table: &mut ClassTable, draft: &Draft) -> Result<Box<Node>, AllocError>
+    fn boxed(&self, table: &mut TableBuilder, draft: &Draft) -> Result<Box<Node>, AllocError>
         requires { NodeNumbered self.now (draft_view draft.now) }
         ensures { IfOk result (λ made. Makes self.now table.old table.new (λ ns. program.node_view ns made.value)
             (draft_view draft.now)) }
@@ -100,7 +100,7 @@ impl Numbering {
     #[cycle(nodes)]
     fn relation(
         &self,
-        table: &mut ClassTable,
+        table: &mut TableBuilder,
         op: RelOp,
         left: &Draft,
         right: &Draft,
@@ -118,7 +118,7 @@ impl Numbering {
     #[cycle(nodes)]
     fn assign(
         &self,
-        table: &mut ClassTable,
+        table: &mut TableBuilder,
         left: &Draft,
         right: &Draft,
     ) -> Result<NodeKind, AllocError>
@@ -135,7 +135,7 @@ impl Numbering {
     #[cycle(nodes)]
     fn while_do(
         &self,
-        table: &mut ClassTable,
+        table: &mut TableBuilder,
         condition: &Draft,
         body: &Draft,
     ) -> Result<NodeKind, AllocError>
@@ -152,7 +152,7 @@ impl Numbering {
     #[cycle(nodes)]
     fn named(
         &self,
-        table: &mut ClassTable,
+        table: &mut TableBuilder,
         name: Place,
         lists: &[DraftList],
     ) -> Result<NodeKind, AllocError>
@@ -168,7 +168,7 @@ impl Numbering {
     #[cycle(nodes)]
     fn chain(
         &self,
-        table: &mut ClassTable,
+        table: &mut TableBuilder,
         first: &Draft,
         links: &[DraftLink],
     ) -> Result<NodeKind, AllocError>
@@ -186,7 +186,7 @@ impl Numbering {
     #[cycle(nodes)]
     fn is_class(
         &self,
-        table: &mut ClassTable,
+        table: &mut TableBuilder,
         operand: &Draft,
         class: Place,
         at: Place,
@@ -203,7 +203,7 @@ impl Numbering {
     #[cycle(nodes)]
     fn conditional(
         &self,
-        table: &mut ClassTable,
+        table: &mut TableBuilder,
         condition: &Draft,
         then: &Draft,
         otherwise: Option<&Draft>,
@@ -223,7 +223,7 @@ impl Numbering {
     #[cycle(nodes)]
     fn case_value(
         &self,
-        table: &mut ClassTable,
+        table: &mut TableBuilder,
         subject: &Draft,
         values: &[Draft],
     ) -> Result<NodeKind, AllocError>
@@ -241,7 +241,7 @@ impl Numbering {
     #[cycle(nodes)]
     fn case_do(
         &self,
-        table: &mut ClassTable,
+        table: &mut TableBuilder,
         subject: &Draft,
         parts: &[Draft],
     ) -> Result<NodeKind, AllocError>
@@ -259,7 +259,7 @@ impl Numbering {
     #[cycle(nodes)]
     fn stepped(
         &self,
-        table: &mut ClassTable,
+        table: &mut TableBuilder,
         control: Place,
         start: &Draft,
         step: Option<&Draft>,
@@ -284,7 +284,7 @@ impl Numbering {
     #[cycle(nodes)]
     fn listed(
         &self,
-        table: &mut ClassTable,
+        table: &mut TableBuilder,
         control: Place,
         values: &[Draft],
         body: &Draft,
@@ -303,7 +303,7 @@ impl Numbering {
     #[cycle(nodes)]
     fn block(
         &self,
-        table: &mut ClassTable,
+        table: &mut TableBuilder,
         decls: &[DraftDecl],
         items: &[DraftItem],
     ) -> Result<NodeKind, AllocError>
@@ -322,7 +322,7 @@ impl Numbering {
     #[cycle(nodes)]
     fn perhaps(
         &self,
-        table: &mut ClassTable,
+        table: &mut TableBuilder,
         draft: Option<&Draft>,
     ) -> Result<Option<Box<Node>>, AllocError>
         requires { PerhapsNumbered self.now (perhaps_of draft) }
@@ -337,7 +337,7 @@ impl Numbering {
 
     /// Phrases.
     #[cycle(nodes)]
-    fn nodes(&self, table: &mut ClassTable, drafts: &[Draft]) -> Result<Vec<Node>, AllocError>
+    fn nodes(&self, table: &mut TableBuilder, drafts: &[Draft]) -> Result<Vec<Node>, AllocError>
         requires { NodesNumbered self.now (nodes_onto (map draft_view drafts.now) typed.no_nodes) }
         ensures { IfOk result (λ made. Makes self.now table.old table.new
             (λ ns. map (program.node_view ns) made.items) (map draft_view drafts.now)) }
@@ -354,7 +354,7 @@ impl Numbering {
     #[cycle(nodes)]
     fn links(
         &self,
-        table: &mut ClassTable,
+        table: &mut TableBuilder,
         links: &[DraftLink],
     ) -> Result<Vec<TypedLink>, AllocError>
         requires { LinksNumbered self.now (links_onto (map link_view links.now) typed.no_links) }
@@ -377,7 +377,7 @@ impl Numbering {
     #[cycle(nodes)]
     fn lists(
         &self,
-        table: &mut ClassTable,
+        table: &mut TableBuilder,
         lists: &[DraftList],
     ) -> Result<Vec<TypedList>, AllocError>
         requires { ListsNumbered self.now (lists_onto (map list_view lists.now) typed.no_lists) }
@@ -397,7 +397,7 @@ impl Numbering {
 
     /// A list behind a name.
     #[cycle(nodes)]
-    fn list(&self, table: &mut ClassTable, list: &DraftList) -> Result<TypedListKind, AllocError>
+    fn list(&self, table: &mut TableBuilder, list: &DraftList) -> Result<TypedListKind, AllocError>
         requires { ListingNumbered self.now (list_view list.now) }
         ensures { IfOk result (λ made. Makes self.now table.old table.new
             (λ ns. program.listing_view ns list.now.place made) (list_view list.now)) }
@@ -416,7 +416,7 @@ impl Numbering {
     #[cycle(nodes)]
     fn actuals(
         &self,
-        table: &mut ClassTable,
+        table: &mut TableBuilder,
         actuals: &[DraftActual],
     ) -> Result<Vec<TypedActual>, AllocError>
         requires { ActualsNumbered self.now (actuals_onto (map actual_view actuals.now) typed.no_actuals) }
@@ -435,7 +435,7 @@ impl Numbering {
     #[cycle(nodes)]
     fn actual(
         &self,
-        table: &mut ClassTable,
+        table: &mut TableBuilder,
         actual: &DraftActual,
     ) -> Result<TypedActual, AllocError>
         requires { ActualNumbered self.now (actual_view actual.now) }
@@ -452,7 +452,7 @@ impl Numbering {
     #[cycle(nodes)]
     fn items(
         &self,
-        table: &mut ClassTable,
+        table: &mut TableBuilder,
         items: &[DraftItem],
     ) -> Result<Vec<TypedItem>, AllocError>
         requires { ItemsNumbered self.now (items_onto (map item_view items.now) typed.no_items) }
@@ -472,7 +472,7 @@ impl Numbering {
     #[cycle(nodes)]
     fn bounds(
         &self,
-        table: &mut ClassTable,
+        table: &mut TableBuilder,
         bounds: &[DraftBound],
     ) -> Result<Vec<TypedBound>, AllocError>
         requires { BoundsNumbered self.now (bounds_onto (map bound_view bounds.now) typed.no_bounds) }
@@ -496,7 +496,7 @@ impl Numbering {
     #[cycle(nodes)]
     fn decls(
         &self,
-        table: &mut ClassTable,
+        table: &mut TableBuilder,
         decls: &[DraftDecl],
     ) -> Result<Vec<TypedDecl>, AllocError>
         requires { DeclsNumbered self.now (decls_onto (map decl_view decls.now) typed.no_decls) }
@@ -513,7 +513,7 @@ impl Numbering {
 
     /// A declaration.
     #[cycle(nodes)]
-    fn decl(&self, table: &mut ClassTable, decl: &DraftDecl) -> Result<TypedDecl, AllocError>
+    fn decl(&self, table: &mut TableBuilder, decl: &DraftDecl) -> Result<TypedDecl, AllocError>
         requires { DeclNumbered self.now (decl_view decl.now) }
         ensures { IfOk result (λ made. Makes self.now table.old table.new (λ ns. program.decl_view ns made)
             (decl_view decl.now)) }
@@ -539,7 +539,7 @@ impl Numbering {
     #[cycle(nodes)]
     fn procedure(
         &self,
-        table: &mut ClassTable,
+        table: &mut TableBuilder,
         procedure: &DraftProc,
     ) -> Result<TypedProc, AllocError>
         requires { DeclNumbered self.now (procedure_view procedure.now) }

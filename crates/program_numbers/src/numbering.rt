@@ -1,8 +1,9 @@
-ghost use Rattle.std.specs.Prelude.{◌≡◌, IfOk, map, true};
+ghost use Rattle.std.specs.Prelude.{◌≡◌, ◌<◌, IfOk, IfSome, length, map, true};
 ghost use Rattle.std.specs.Option.{option_map};
 ghost use Rattle.algolw_typing.specs.Known.{AllHad, KnowsType, KnowsResult, KnowsGives, KnowsDeclared};
 ghost use Rattle.algolw_typing.specs.ProgramView.{numbered, set_view, type_view, gives_view};
 ghost use Rattle.algolw_typing.specs.Types.{has};
+ghost use Rattle.record_classes.specs.Classes.{set_of};
 ghost use Rattle.typed_drafts.specs.DraftView.{placed_view};
 ghost use Rattle.typing_rules.specs.ClassSets.{Rising};
 ghost use Rattle.typing_rules.specs.View.{value_type, phrase_type};
@@ -10,8 +11,8 @@ ghost use Rattle.program_numbers.specs.Makes.{Makes, places_in, target_in};
 ghost use Rattle.program_numbers.specs.Numbered.{StatementNumbered};
 
 use crate::place_numbers::PlaceNumbers;
+use crate::table_builder::TableBuilder;
 use algolw_tree::{Gives, Targets};
-use record_classes::ClassTable;
 use std::alloc::{AllocError, Global};
 use typing_rules::{PhraseType, ValueType};
 use value_ops::{ClassId, Place, SetId, SimpleType};
@@ -89,23 +90,54 @@ impl Numbering {
         Ok(ids)
     }
 
+    /// Whether these numbers of record classes are those of the classes at these places, one by one.
+    fn are_at(&self, ids: &[ClassId], places: &[Place]) -> bool
+        ensures { result ≡ true → places_in self.now.classes ids.now ≡ places.now }
+    {
+        if ids.len() != places.len() {
+            return false;
+        }
+        for (id, place) in ids.iter().zip(places) {
+            if !self.classes.is_at(u32::from(id.0), *place) {
+                return false;
+            }
+        }
+        true
+    }
+
+    /// The number of a set of record classes, where the table has it and it's found without being made again.
+    fn known_set(&self, table: &TableBuilder, classes: &[Place]) -> Option<SetId>
+        ensures there { IfSome result (λ set. set.0 < length table.now.sets) }
+        ensures same { IfSome result (λ set. places_in self.now.classes (set_of table.now set) ≡ classes.now) }
+    {
+        let set = table.likely_number(classes)?;
+        if self.are_at(table.set_classes(set), classes) {
+            Some(set)
+        } else {
+            None
+        }
+    }
+
     /// The number of a set of record classes, which is added to the table where it isn't there.
-    fn set(&self, table: &mut ClassTable, classes: &[Place]) -> Result<SetId, AllocError>
+    fn set(&self, table: &mut TableBuilder, classes: &[Place]) -> Result<SetId, AllocError>
         requires had { AllHad self.now.classes classes.now }
         requires rising { Rising classes.now }
         ensures { IfOk result (λ set. Makes self.now table.old table.new (λ ns. set_view ns set.0) classes.now) }
     {
+        if let Some(set) = self.known_set(table, classes) {
+            return Ok(set);
+        }
         let ids = self.class_ids(classes)?;
         if table.set_count() >= 65535 {
             return Err(AllocError);
         }
-        table.add_set(ids)
+        table.add_set(classes, ids)
     }
 
     /// A type.
     pub fn simple_type(
         &self,
-        table: &mut ClassTable,
+        table: &mut TableBuilder,
         of: ValueType,
     ) -> Result<SimpleType, AllocError>
         requires { KnowsType self.now.classes (value_type of) }
@@ -129,7 +161,7 @@ impl Numbering {
     /// A type that may be missing.
     pub fn perhaps_type(
         &self,
-        table: &mut ClassTable,
+        table: &mut TableBuilder,
         of: Option<ValueType>,
     ) -> Result<Option<SimpleType>, AllocError>
         requires { KnowsResult self.now.classes (option_map value_type of) }
@@ -145,7 +177,7 @@ impl Numbering {
     /// What a phrase gives.
     pub fn gives(
         &self,
-        table: &mut ClassTable,
+        table: &mut TableBuilder,
         gives: Option<PhraseType>,
     ) -> Result<Option<Gives>, AllocError>
         requires { KnowsGives self.now.classes (option_map phrase_type gives) }

@@ -54,6 +54,16 @@ impl PlaceNumbers {
         }
     }
 
+    /// Whether this is the place with a number.
+    pub(crate) fn is_at(&self, number: u32, place: Place) -> bool
+        ensures { result ≡ true → numbered self.now number ≡ place }
+    {
+        match self.places.get(number as usize) {
+            Some(held) => *held == place,
+            None => false,
+        }
+    }
+
     /// The places.
     pub(crate) fn into_places(self) -> Vec<Place>
         ensures { result.items ≡ self }

@@ -101,7 +101,7 @@ pub fn number_program<'a>(
     Ok(Program {
         root,
         names,
-        classes: table,
+        classes: table.into_table(),
         statements: numbering.into_statements(),
     })
 }

@@ -1,8 +1,10 @@
 use Rattle.std.proofs.Common.{map, refl, sym, ap, subst, ◌∙◌}
 use Rattle.algolw_typing.specs.Known.{AllHad, Knows, ClassesKnow}
 use Rattle.algolw_typing.specs.Programs.{statements}
+use Rattle.algolw_typing.specs.ProgramView.{node_view}
 use Rattle.typed_drafts.specs.DraftView.{draft_view}
 use Rattle.block_scopes.specs.ClassView.{class_view}
+use Rattle.program_numbers.specs.Makes.{Makes}
 use Rattle.program_numbers.proofs.KnownTrees.{all_sorted, tree_numbered}
 use Rattle.program_numbers.proofs.ProgramMaking.{program_held}
 use Rattle.program_numbers.proofs.programs.number_program.Goals as goal
@@ -21,4 +23,5 @@ node-requires c =
 pub returns : goal.returns
 returns c =
     program_held c.in_ok-numbering.numbering c.in_ok-table.table _ _ refl (c.into_statements.ensures ∙ c.in_ok-numbering.ensures.statements) (c.in_ok-numbering.ensures.names ∙ ap (map (λ info. info.place)) c.deref.ensures.value) c.in_ok-numbering.ensures.classes
-    (sym c.into_statements.ensures) c.in_ok-table.ensures c.in_ok-root.ensures
+    (sym c.into_statements.ensures) c.in_ok-table.ensures
+    (subst (λ t. Makes c.in_ok-numbering.numbering c.in_ok-table.table t (λ ns. node_view ns c.in_ok-root.root) (draft_view c.args.draft.now)) (sym c.into_table.ensures) c.in_ok-root.ensures)
