@@ -1,3 +1,3 @@
 pub mod Within
-pub mod Faults
 pub mod Found
+pub mod Results

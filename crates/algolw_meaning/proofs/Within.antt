@@ -10,8 +10,8 @@ use Rattle.program_meaning.specs.Laws.{KeepsItsLimits}
 use Rattle.program_meaning.specs.Translating.{program_phrase}
 use Rattle.program_meaning.proofs.Runs.{runs_keep_their_limits}
 use Rattle.algolw_meaning.specs.DeckDiagnostics.{Deck, IsProgram, IsWrong, NothingFound, deck_of}
-use Rattle.algolw_meaning.specs.Laws.{Within}
-use Rattle.algolw_meaning.specs.Meaning.{narrow_result, result_by, shown_diagnostics}
+use Rattle.algolw_meaning.specs.Laws.{KeepsTheJob, Within}
+use Rattle.algolw_meaning.specs.Meaning.{JobResult, narrow_result, result_by, shown_diagnostics}
 use Rattle.algolw_meaning.specs.Running.{job_result, result_of_deck, setting_of}
 
 -- the result of a job for these diagnostics and this sum, where it has one only if it may take two steps
@@ -27,13 +27,19 @@ within_by [] true (Some sum) job steps lines =
 pub narrow_within : (job : JobView) → 1 ≤ job.lines → Within job (narrow_result job)
 narrow_within job lines = within_by (shown_diagnostics job.deck) (nat_le 2 job.steps) (sum_of_deck job.deck) job (λ e. grind (arith, nat_tests)) lines
 
-deck_within : (faults : List Diagnostic) (deck : Deck) (job : JobView) → Within job (result_of_deck faults deck job)
-deck_within (d ∷ faults) deck job = (omega arith, omega arith)
-deck_within [] (IsProgram x) job =
+deck_keeps : (faults : List Diagnostic) (deck : Deck) (job : JobView) → KeepsTheJob job (result_of_deck faults deck job)
+deck_keeps (d ∷ faults) deck job = record { cards = refl; steps = omega arith; lines = omega arith }
+deck_keeps [] (IsProgram x) job =
     let keeps : KeepsItsLimits (setting_of job) (program_phrase (program_of x)) = runs_keep_their_limits (setting_of job) (program_phrase (program_of x)) in
-    (omega arith, omega (arith, keeps.steps, keeps.lines))
-deck_within [] (IsWrong d) job = (omega arith, omega arith)
-deck_within [] NothingFound job = (omega arith, omega arith)
+    record { cards = refl; steps = keeps.steps; lines = keeps.lines }
+deck_keeps [] (IsWrong d) job = record { cards = refl; steps = omega arith; lines = omega arith }
+deck_keeps [] NothingFound job = record { cards = refl; steps = omega arith; lines = omega arith }
+
+pub job_keeps : (job : JobView) → KeepsTheJob job (job_result job)
+job_keeps job = deck_keeps (shown_diagnostics job.deck) (deck_of job.deck) job
+
+kept_within : (job : JobView) (result : JobResult) → KeepsTheJob job result → Within job result
+kept_within job result k = (omega (arith, k.cards), omega (arith, k.cards, k.steps, k.lines))
 
 pub job_within : (job : JobView) → Within job (job_result job)
-job_within job = deck_within (shown_diagnostics job.deck) (deck_of job.deck) job
+job_within job = kept_within job (job_result job) (job_keeps job)

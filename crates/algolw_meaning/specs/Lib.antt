@@ -1,6 +1,5 @@
 pub mod Texts
 pub mod Sums
-pub mod DeckFaults
 pub mod DeckDiagnostics
 pub mod TypingDecks
 pub mod ProgramDecks

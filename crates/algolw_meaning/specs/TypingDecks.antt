@@ -411,11 +411,15 @@ an_actual_is_a_part_of_a_procedure_s_list_alone_decks = (
 )
     ∷ (
       codes "BEGIN PROCEDURE P; ; PROCEDURE Q (INTEGER X); ; INTEGER ARRAY A (1::2,1::2);" ∷ codes "P(Q); P(A); P(UNDEF); P(1 + TRUE); P(READ); P(A(*,1));" ∷ codes "P(1) END." ∷ [],
-      d 39 2 1 ∷ d 39 2 7 ∷ d 30 2 15 ∷ d 34 2 27 ∷ d 39 2 38 ∷ d 40 2 47 ∷ d 39 3 1 ∷ [],
+      d 39 2 1 ∷ d 39 2 7 ∷ d 30 2 15 ∷ d 34 2 27 ∷ d 39 2 38 ∷ d 39 2 45 ∷ d 39 3 1 ∷ [],
     )
     ∷ (
       codes "BEGIN PROCEDURE P (INTEGER X); ; INTEGER ARRAY A (1::2,1::2);" ∷ codes "P(A(1,*)(0|1)) END." ∷ [],
       d 40 2 3 ∷ [],
+    )
+    ∷ (
+      codes "BEGIN INTEGER ARRAY A (1::2,1::2); PROCEDURE P;;" ∷ codes "P(A(1,*)); P(A(TRUE,*)); P(A(1,1,*)) END." ∷ [],
+      d 39 2 1 ∷ d 37 2 14 ∷ d 39 2 28 ∷ [],
     )
     ∷ []
 

@@ -1,21 +1,26 @@
 ghost use Rattle.algolw_meaning.specs.CallingDecks.{CallingDecksGive};
-ghost use Rattle.algolw_meaning.specs.DeckDiagnostics.{DiagnosticsOfDecks};
-ghost use Rattle.algolw_meaning.specs.DeckFaults.{DeckFaults};
-ghost use Rattle.algolw_meaning.specs.Laws.{ResultWithin};
+ghost use Rattle.algolw_meaning.specs.DeckDiagnostics.{DecksAreRead, DiagnosticsOfDecks};
+ghost use Rattle.algolw_meaning.specs.Laws.{ResultWithin, ResultsOfJobs};
 ghost use Rattle.algolw_meaning.specs.ManualDecks.{ManualDecksGive};
 ghost use Rattle.algolw_meaning.specs.ProgramDecks.{DecksHaveTheirParts};
 ghost use Rattle.algolw_meaning.specs.RunningDecks.{DecksGive};
 ghost use Rattle.algolw_meaning.specs.SectionDecks.{SectionsGive};
 ghost use Rattle.algolw_meaning.specs.TypingDecks.{DecksHaveTheirFaults};
 
-/// A job is charged at least its cards and at most its reserve.
+/// A job's result counts its cards, keeps its limits, and costs at least its cards and at most its reserve.
 pub fn result_within()
     ensures { ResultWithin }
 {}
 
-/// A deck has the diagnostic of its tokens, or else of its form, or it spells a program.
-pub fn faults_of_decks()
-    ensures { DeckFaults }
+/// A job shows the one fault of its deck's tokens or form; or the first twenty of the program that they spell; or what
+/// this program gives, which has none.
+pub fn results_of_jobs()
+    ensures { ResultsOfJobs }
+{}
+
+/// A deck is the program that its tokens spell, or has one fault, of its tokens or else of its form.
+pub fn decks_are_read()
+    ensures { DecksAreRead }
 {}
 
 /// The diagnostics of a deck are that of its tokens or form, alone, or those of the names and types of its program.

@@ -5,7 +5,7 @@ use Rattle.algolw_tree.specs.declared.tokens.Token.{Token}
 use Rattle.algolw_tree.specs.Tokens.{walk, step, Piece, IsFront, Gives, finish, skip, token, kept, is_name, is_end}
 use Rattle.algolw_scanner.specs.Laws.{IsBefore, Rise}
 
-before_both : (a b c : Place) → IsBefore a b → IsBefore b c → IsBefore a c
+pub before_both : (a b c : Place) → IsBefore a b → IsBefore b c → IsBefore a c
 before_both a b c (inl x) (inl y) = inl (omega arith)
 before_both a b c (inl x) (inr (y, z)) = inl (omega arith)
 before_both a b c (inr (x, v)) (inl y) = inl (omega arith)

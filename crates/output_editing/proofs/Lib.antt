@@ -1,4 +1,5 @@
 pub mod Lays
+pub mod Cutting
 pub mod Pages
 pub mod Widths
 pub mod Rows

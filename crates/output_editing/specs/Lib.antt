@@ -1,4 +1,5 @@
 pub mod Layout
+pub mod Cuts
 pub mod Written
 pub mod Page
 pub mod Held

@@ -1,5 +1,5 @@
--- The bound on a run is never what stops it; steps stay within their limit, and no more statements are begun than steps are counted.
-use Rattle.std.proofs.Common.{◌≡◌, ◌≢◌, ℕ, zero, suc, ◌+◌, ◌-◌, ◌*◌, ◌<◌, ◌≤◌, ℤ, pos, ◌+ℤ◌, List, [], ◌∷◌, length, map, refl, arith}
+-- The bound on a run is never what stops it; steps grow within their limit, and no more statements are begun than steps are counted.
+use Rattle.std.proofs.Common.{◌≡◌, ◌≢◌, ℕ, zero, suc, ◌+◌, ◌-◌, ◌*◌, ◌<◌, ◌≤◌, max, ℤ, pos, ◌+ℤ◌, List, [], ◌∷◌, length, map, refl, ap, arith}
 use borrow.Author.Tests.{ltb-true}
 use Rattle.std.specs.Prelude.{Option, Some, None, Bool, true, false, nat_lt, nat_le, replicate}
 use Rattle.std.specs.Ordering.{int_eq}
@@ -12,44 +12,49 @@ use Rattle.algolw_typing.specs.Meanings.{FormalType, by_name, by_value, by_resul
 use Rattle.program_meaning.specs.Phrases.{Phrase, Empty, Constant, Named, Variable, Array, Label, Procedure, Copied, Unary, Binary, Relation, IsClass, Element, Field, Part, Record, RecordAlone, IfThen, Case, Block, Call, Assign, WhileDo, ForStep, ForList, Goto, Assert, Write, Read, ReadCard, IoControl, Phrases, no_phrases, phrase_and, Targets, no_targets, target_and, Subscripts, no_subscripts, star_and, subscript_and, Actuals, no_actuals, actual_and, Actual, Given, Alone, Subarray, Items, no_items, item_and, Bounds, no_bounds, bound_and, Decls, no_decls, variables_and, arrays_and, procedure_and, Name, Formal, Mark, label_places}
 use Rattle.program_meaning.specs.Operations.{unary, binary, relation}
 use Rattle.program_meaning.specs.State as state
-use Rattle.program_meaning.specs.State.{State, Outcome, on, jump, stop, M, Setting, Why, by_fault, by_limit, wrong, unfinished, Entry, ShownName, Use, for_value, for_place, nothing, a_value, a_spot, Spot, whole, within, ArrayInfo, RecordInfo, a_number, in_block, in_call, in_actual, in_turn, after, ◌>>=◌, ◌>>◌, give, halt, fault_at, test, tick, note_begun, begin, innermost, take_cells, give_back, holding, push_entry, pop_entry, under, deeper, shallower, entered, show, value_in, value_of, spot_in, spot_of, integer_in, integer_of, truth_in, truth_of, string_in, record_in, answer_at, only_value, defined, look, put, variable, new, record_at, the_record, made, made_result, characters, string_held, put_string, store, assign, array_at, the_array, filled_in, all_within, subscripted, offset, elements, element_of, place_array, make_array, make_record, is_place_of, field_of, is_of_class, spot_within, string_answer, print, within_lines, put_pieces, read_so_far, set_read, scan_answer, Made, back_to, is_own, caught, catching, cells_held, set_cells, made_here, most_cells, most_depth, most_records, most_fields}
+use Rattle.program_meaning.specs.State.{State, Outcome, on, jump, stop, M, Setting, Why, by_fault, by_limit, wrong, unfinished, Entry, ShownName, Use, for_value, for_place, nothing, a_value, a_spot, Spot, whole, within, ArrayInfo, RecordInfo, a_number, in_block, in_call, in_actual, in_turn, after, ◌>>=◌, ◌>>◌, give, halt, fault_at, test, tick, note_begun, begin, innermost, take_cells, give_back, holding, push_entry, pop_entry, under, deeper, shallower, entered, show, value_in, value_of, spot_in, spot_of, integer_in, integer_of, truth_in, truth_of, string_in, record_in, answer_at, only_value, defined, look, put, variable, new, record_at, the_record, made, made_result, characters, string_held, put_string, store, assign, array_at, the_array, filled_in, all_within, subscripted, offset, elements, element_of, place_array, make_array, make_record, is_place_of, field_of, is_of_class, spot_within, string_answer, print, within_lines, put_pieces, read_so_far, set_read, scan_answer, Made, back_to, is_own, caught, catching, cells_held, set_cells, made_here, most_cells, most_depth, most_records, most_fields, for_an_array}
 use Rattle.program_meaning.specs.Copying.{Firsts, free, shown, declare_variables, declare_arrays, value_held, read_type, has_turn, case_number, cells_of, from}
 use Rattle.program_meaning.specs.Environments as env
 use Rattle.program_meaning.specs.Environments.{Env, empty, bind, find, Bodied, Meant, Thing, to_constant, to_variable, to_array, to_label, to_procedure, thunk, extend, head}
-use Rattle.program_meaning.proofs.Keeping.{Kept, Keeps, keeps_bind, keeps_then, keeps_test, keeps_give, keeps_wrong, keeps_fault, keeps_cells_held, keeps_made_here, keeps_firsts, keeps_fresh, keeps_opened, keeps_value_in, keeps_spot_in, keeps_integer_in, keeps_truth_in, keeps_string_in, keeps_record_in, keeps_answer, keeps_look, keeps_variable, keeps_made, keeps_made_result, keeps_assign, keeps_the_array, keeps_element, keeps_make_record, keeps_field, keeps_class, keeps_within, keeps_string_answer, keeps_scan, keeps_take_card, keeps_io_control, keeps_written, keeps_no_actuals, keeps_handed, keeps_bound, keeps_compared, keeps_no_formals, keeps_the_procedure}
+use Rattle.program_meaning.proofs.Keeping.{Kept, Keeps, keeps_bind, keeps_then, keeps_test, keeps_give, keeps_wrong, keeps_fault, keeps_cells_held, keeps_made_here, keeps_firsts, keeps_fresh, keeps_opened, keeps_value_in, keeps_spot_in, keeps_integer_in, keeps_truth_in, keeps_string_in, keeps_record_in, keeps_answer, keeps_look, keeps_variable, keeps_made, keeps_made_result, keeps_assign, keeps_the_array, keeps_element, keeps_make_record, keeps_field, keeps_class, keeps_within, keeps_string_answer, keeps_scan, keeps_take_card, keeps_io_control, keeps_written, keeps_no_actuals, keeps_procedure_handed, keeps_array_handed, keeps_bound, keeps_compared, keeps_no_formals, keeps_the_procedure}
 
 nat_lt_means : (a b : ℕ) → nat_lt a b ≡ true → a < b
 nat_lt_means a b e = ltb-true a b e
 
--- steps are within their limit, and no more statements are begun than steps are counted
-pub record Fine (lim : ℕ) (s : State Bodied) : Type 0 where
-  pub steps : s.steps ≤ lim
-  pub begun : length s.begun ≤ s.steps
+-- from one state to another steps grow, by no more than the limit leaves, and no more statements are begun than steps are counted
+pub record Since (lim : ℕ) (s t : State Bodied) : Type 0 where
+  pub grown : s.steps ≤ t.steps
+  pub steps : t.steps ≤ max lim s.steps
+  pub begun : length t.begun + s.steps ≤ length s.begun + t.steps
 
--- the steps only grow; a jump has counted one
-abbrev pub Good : {A : Type 0} → ℕ → ℕ → Outcome Bodied A → Type 0
-Good lim n (on a t) = (n ≤ t.steps) × Fine lim t
-Good lim n (jump l t) = (n < t.steps) × Fine lim t
-Good lim n (stop y w t) = (y ≢ unfinished) × Fine lim t
+-- a jump has counted a step
+abbrev pub Good : {A : Type 0} → ℕ → State Bodied → Outcome Bodied A → Type 0
+Good lim s (on a t) = Since lim s t
+Good lim s (jump l t) = (s.steps < t.steps) × Since lim s t
+Good lim s (stop y w t) = (y ≢ unfinished) × Since lim s t
 
+-- in a state in which the limit leaves less than n steps
 pub record Alive {A : Type 0} (lim : ℕ) (n : ℕ) (m : M Bodied A) : Type 0 where
-  pub by : (s : State Bodied) → Fine lim s → lim < s.steps + n → Good lim s.steps (m s)
+  pub by : (s : State Bodied) → lim - s.steps < n → Good lim s (m s)
 
-weaker : {A : Type 0} (lim k n : ℕ) (r : Outcome Bodied A) → k ≤ n → Good lim n r → Good lim k r
-weaker lim k n (on a t) h g = (omega (arith, g.0), g.1)
-weaker lim k n (jump l t) h g = (omega (arith, g.0), g.1)
-weaker lim k n (stop y w t) h g = g
+both : (lim : ℕ) (s t u : State Bodied) → Since lim s t → Since lim t u → Since lim s u
+both lim s t u p q = record { grown = omega (arith, p.grown, q.grown); steps = omega (arith, p.grown, p.steps, q.steps); begun = omega (arith, p.begun, q.begun) }
 
-good_after : {A B : Type 0} (lim n k : ℕ) (f : A → M Bodied B) → ((a : A) → Alive lim n (f a)) → lim < k + n → (r : Outcome Bodied A) → Good lim k r → Good lim k (after r f)
-good_after lim n k f h b (on a t) g = weaker lim k t.steps (f a t) g.0 ((h a).by t g.1 (omega (arith, g.0, b)))
-good_after lim n k f h b (jump l t) g = g
-good_after lim n k f h b (stop y w t) g = g
+since_good : {A : Type 0} (lim : ℕ) (s t : State Bodied) (r : Outcome Bodied A) → Since lim s t → Good lim t r → Good lim s r
+since_good lim s t (on a u) h g = both lim s t u h g
+since_good lim s t (jump l u) h g = (omega (arith, h.grown, g.0), both lim s t u h g.1)
+since_good lim s t (stop y w u) h g = (g.0, both lim s t u h g.1)
+
+good_after : {A B : Type 0} (lim n : ℕ) (s : State Bodied) (f : A → M Bodied B) → ((a : A) → Alive lim n (f a)) → lim - s.steps < n → (r : Outcome Bodied A) → Good lim s r → Good lim s (after r f)
+good_after lim n s f h b (on a t) g = since_good lim s t (f a t) g ((h a).by t (omega (arith, g.grown, b)))
+good_after lim n s f h b (jump l t) g = g
+good_after lim n s f h b (stop y w t) g = g
 
 pub alive_bind : {A B : Type 0} {lim n : ℕ} {m : M Bodied A} {f : A → M Bodied B} → Alive lim n m → ((a : A) → Alive lim n (f a)) → Alive lim n (m >>= f)
-alive_bind {lim = lim} {n = n} {m = m} {f = f} h g = record { by = λ s le b. good_after lim n s.steps f g b (m s) (h.by s le b) }
+alive_bind {lim = lim} {n = n} {m = m} {f = f} h g = record { by = λ s b. good_after lim n s f g b (m s) (h.by s b) }
 
 pub alive_then : {A B : Type 0} {lim n : ℕ} {m : M Bodied A} {f : M Bodied B} → Alive lim n m → Alive lim n f → Alive lim n (m >> f)
-alive_then {lim = lim} {n = n} {m = m} {f = f} h g = record { by = λ s le b. good_after lim n s.steps (λ a. f) (λ a. g) b (m s) (h.by s le b) }
+alive_then {lim = lim} {n = n} {m = m} {f = f} h g = record { by = λ s b. good_after lim n s (λ a. f) (λ a. g) b (m s) (h.by s b) }
 
 -- ---- what changes no counts
 
@@ -98,13 +103,16 @@ counts_array k t bounds = record { by = λ s. record { steps = refl; begun = ref
 
 -- ---- what changes no counts is alive
 
-counted_good : {A : Type 0} (lim : ℕ) (s : State Bodied) (r : Outcome Bodied A) → Fine lim s → Counted s r → Good lim s.steps r
-counted_good lim s (on a t) f k = (omega (arith, k.steps), record { steps = rw (k.steps) f.steps; begun = rw (k.steps, k.begun) f.begun })
-counted_good lim s (jump l t) f k = elim k [ ]
-counted_good lim s (stop y w t) f k = (k.0, record { steps = rw (k.1.steps) f.steps; begun = rw (k.1.steps, k.1.begun) f.begun })
+uncounted_since : (lim : ℕ) (s t : State Bodied) → Uncounted s t → Since lim s t
+uncounted_since lim s t k = let same : length t.begun ≡ length s.begun = ap length k.begun in record { grown = omega (arith, k.steps); steps = omega (arith, k.steps); begun = omega (arith, k.steps, same) }
+
+counted_good : {A : Type 0} (lim : ℕ) (s : State Bodied) (r : Outcome Bodied A) → Counted s r → Good lim s r
+counted_good lim s (on a t) k = uncounted_since lim s t k
+counted_good lim s (jump l t) k = elim k [ ]
+counted_good lim s (stop y w t) k = (k.0, uncounted_since lim s t k.1)
 
 alive_counts : {A : Type 0} {m : M Bodied A} {lim n : ℕ} → Counts m → Alive lim n m
-alive_counts {m = m} {lim = lim} h = record { by = λ s f b. counted_good lim s (m s) f (h.by s) }
+alive_counts {m = m} {lim = lim} h = record { by = λ s b. counted_good lim s (m s) (h.by s) }
 
 kept_counted : {A : Type 0} (s : State Bodied) (r : Outcome Bodied A) → Kept s r → Counted s r
 kept_counted s (on a t) k = record { steps = k.steps; begun = k.begun }
@@ -112,40 +120,52 @@ kept_counted s (jump l t) k = k
 kept_counted s (stop y w t) k = (k.0, record { steps = k.1.steps; begun = k.1.begun })
 
 pub alive_keeps : {A : Type 0} {m : M Bodied A} {lim n : ℕ} → Keeps m → Alive lim n m
-alive_keeps {m = m} {lim = lim} h = record { by = λ s f b. counted_good lim s (m s) f (kept_counted s (m s) (h.by s)) }
+alive_keeps {m = m} {lim = lim} h = record { by = λ s b. counted_good lim s (m s) (kept_counted s (m s) (h.by s)) }
 
-still : {A : Type 0} (lim k : ℕ) (b : Bool) (x y : Outcome Bodied A) → Good lim k x → Good lim k y → Good lim k (elim b [ true ↦ x | false ↦ y ])
-still lim k true x y p q = p
-still lim k false x y p q = q
+still : {A : Type 0} (lim : ℕ) (s : State Bodied) (b : Bool) (x y : Outcome Bodied A) → Good lim s x → Good lim s y → Good lim s (elim b [ true ↦ x | false ↦ y ])
+still lim s true x y p q = p
+still lim s false x y p q = q
 
 pub alive_test : {A : Type 0} {lim n : ℕ} {m k : M Bodied A} (b : Bool) → Alive lim n m → Alive lim n k → Alive lim n (test b m k)
-alive_test {lim = lim} b h g = record { by = λ s f q. still lim s.steps b _ _ (h.by s f q) (g.by s f q) }
+alive_test {lim = lim} b h g = record { by = λ s q. still lim s b _ _ (h.by s q) (g.by s q) }
 
 -- ---- steps
 
-ticked : {A : Type 0} (set : Setting) (w : Place) (m : M Bodied A) (s : State Bodied) (n : ℕ) (b : Bool) → nat_lt s.steps set.steps ≡ b → Fine set.steps s → ((t : State Bodied) → Fine set.steps t → set.steps < t.steps + n → Good set.steps t.steps (m t)) → set.steps < s.steps + suc n
-    → Good set.steps s.steps (after (elim b [ true ↦ on (tt {0}) (record s { steps = s.steps + 1 }) | false ↦ stop (by_limit limit.Steps) w s ]) (λ x. m))
-ticked set w m s n true e f h q =
-    let lt : s.steps < set.steps = omega (arith, nat_lt_means s.steps set.steps e) in
-    let fine : Fine set.steps (record s { steps = s.steps + 1 }) = record { steps = omega (arith, lt); begun = omega (arith, f.begun) } in
-    weaker set.steps s.steps (s.steps + 1) (m (record s { steps = s.steps + 1 })) (omega arith) (h (record s { steps = s.steps + 1 }) fine (omega (arith, q)))
-ticked set w m s n false e f h q = ((λ x. cc), f)
+same_since : (lim : ℕ) (s : State Bodied) → Since lim s s
+same_since lim s = record { grown = omega arith; steps = omega arith; begun = omega arith }
+
+-- a step more, and a statement begun
+abbrev step_more : State Bodied → State Bodied
+step_more s = record s { steps = s.steps + 1 }
+
+step_since : (set : Setting) (s : State Bodied) → nat_lt s.steps set.steps ≡ true → Since set.steps s (step_more s)
+step_since set s e = let lt : s.steps < set.steps = nat_lt_means s.steps set.steps e in record { grown = omega arith; steps = omega (arith, lt); begun = omega arith }
+
+begun_since : (set : Setting) (st : Place) (s : State Bodied) → nat_lt s.steps set.steps ≡ true → Since set.steps s (record (step_more s) { begun = st ∷ s.begun })
+begun_since set st s e = let lt : s.steps < set.steps = nat_lt_means s.steps set.steps e in record { grown = omega arith; steps = omega (arith, lt); begun = omega arith }
+
+ticked : {A : Type 0} (set : Setting) (w : Place) (m : M Bodied A) (s : State Bodied) (n : ℕ) (b : Bool) → nat_lt s.steps set.steps ≡ b → ((t : State Bodied) → set.steps - t.steps < n → Good set.steps t (m t)) → set.steps - s.steps < suc n
+    → Good set.steps s (after (elim b [ true ↦ on (tt {0}) (step_more s) | false ↦ stop (by_limit limit.Steps) w s ]) (λ x. m))
+ticked set w m s n true e h q =
+    let lt : s.steps < set.steps = nat_lt_means s.steps set.steps e in
+    since_good set.steps s (step_more s) (m (step_more s)) (step_since set s e) (h (step_more s) (omega (arith, q, lt)))
+ticked set w m s n false e h q = ((λ x. cc), same_since set.steps s)
 
 -- a step counted leaves one less to be done
 pub alive_tick : {A : Type 0} {n : ℕ} {m : M Bodied A} (set : Setting) (w : Place) → Alive set.steps n m → Alive set.steps (suc n) (tick set w >> m)
-alive_tick {n = n} {m = m} set w h = record { by = λ s f b. ticked set w m s n (nat_lt s.steps set.steps) refl f h.by b }
+alive_tick {n = n} {m = m} set w h = record { by = λ s b. ticked set w m s n (nat_lt s.steps set.steps) refl h.by b }
 
-begun_at : (set : Setting) (st : Place) (s : State Bodied) (b : Bool) → nat_lt s.steps set.steps ≡ b → Fine set.steps s
-    → Good set.steps s.steps (after (elim b [ true ↦ on (tt {0}) (record s { steps = s.steps + 1 }) | false ↦ stop (by_limit limit.Steps) st s ]) (λ x. note_begun st))
-begun_at set st s true e f = let lt : s.steps < set.steps = omega (arith, nat_lt_means s.steps set.steps e) in (omega arith, record { steps = omega (arith, lt); begun = omega (arith, f.begun) })
-begun_at set st s false e f = ((λ x. cc), f)
+begun_at : (set : Setting) (st : Place) (s : State Bodied) (b : Bool) → nat_lt s.steps set.steps ≡ b
+    → Good set.steps s (after (elim b [ true ↦ on (tt {0}) (step_more s) | false ↦ stop (by_limit limit.Steps) st s ]) (λ x. note_begun st))
+begun_at set st s true e = begun_since set st s e
+begun_at set st s false e = ((λ x. cc), same_since set.steps s)
 
 alive_begin : {n : ℕ} (set : Setting) (st : Option Place) → Alive set.steps n (begin set st)
 alive_begin set None = alive_keeps (keeps_give tt)
-alive_begin set (Some st) = record { by = λ s f b. begun_at set st s (nat_lt s.steps set.steps) refl f }
+alive_begin set (Some st) = record { by = λ s b. begun_at set st s (nat_lt s.steps set.steps) refl }
 
 alive_down : {A : Type 0} {lim n : ℕ} {m : M Bodied A} → Alive lim (suc n) m → Alive lim n m
-alive_down h = record { by = λ s f b. h.by s f (omega (arith, b)) }
+alive_down h = record { by = λ s b. h.by s (omega (arith, b)) }
 
 -- ---- what is done with something alive
 
@@ -175,15 +195,17 @@ alive_only for_value w h = h
 alive_only for_place w h = alive_keeps (keeps_wrong w)
 
 -- a jump has counted a step, so what it goes on with has one less to do
-alive_caught : {A : Type 0} (lim n k : ℕ) (b : Made) (r : ℕ → M Bodied A) → ((j : ℕ) → Alive lim n (r j)) → lim < k + suc n → (x : Outcome Bodied A) → Good lim k x → Good lim k (caught b r x)
-alive_caught lim n k b r h q (on a t) g = g
-alive_caught lim n k b r h q (jump l t) g =
-    let fine : Fine lim (back_to b t) = record { steps = g.1.steps; begun = g.1.begun } in
-    still lim k (is_own b l) _ _ (weaker lim k t.steps (r (l - b.first) (back_to b t)) (omega (arith, g.0)) ((h (l - b.first)).by (back_to b t) fine (omega (arith, g.0, q)))) g
-alive_caught lim n k b r h q (stop y w t) g = g
+back_since : (lim : ℕ) (b : Made) (s t : State Bodied) → Since lim s t → Since lim s (back_to b t)
+back_since lim b s t h = record { grown = h.grown; steps = h.steps; begun = h.begun }
+
+alive_caught : {A : Type 0} (lim n : ℕ) (s : State Bodied) (b : Made) (r : ℕ → M Bodied A) → ((j : ℕ) → Alive lim n (r j)) → lim - s.steps < suc n → (x : Outcome Bodied A) → Good lim s x → Good lim s (caught b r x)
+alive_caught lim n s b r h q (on a t) g = g
+alive_caught lim n s b r h q (jump l t) g =
+    still lim s (is_own b l) _ _ (since_good lim s (back_to b t) (r (l - b.first) (back_to b t)) (back_since lim b s t g.1) ((h (l - b.first)).by (back_to b t) (omega (arith, g.0, g.1.steps, q)))) g
+alive_caught lim n s b r h q (stop y w t) g = g
 
 alive_catching : {A : Type 0} {lim n : ℕ} {m : M Bodied A} {r : ℕ → M Bodied A} (b : Made) → ((j : ℕ) → Alive lim n (r j)) → Alive lim (suc n) m → Alive lim (suc n) (catching b r m)
-alive_catching {lim = lim} {n = n} {m = m} {r = r} b h g = record { by = λ s f q. alive_caught lim n s.steps b r h q (m s) (g.by s f q) }
+alive_catching {lim = lim} {n = n} {m = m} {r = r} b h g = record { by = λ s q. alive_caught lim n s b r h q (m s) (g.by s q) }
 
 alive_value_held : {lim n : ℕ} {m : M Bodied (Unit {0})} (t : Option ValueType) (w : Place) → Alive lim n m → Alive lim n (value_held t w m)
 alive_value_held None w h = h
@@ -200,11 +222,19 @@ alive_phrase_ready (by_name t) w v g first a e h = alive_keeps (keeps_give _)
 alive_phrase_ready (for_procedure result) w v g first a e h = alive_keeps (keeps_give _)
 alive_phrase_ready (for_array t n) w v g first a e h = alive_keeps (keeps_wrong w)
 
+alive_for_an_array : {A : Type 0} {lim n : ℕ} {m : M Bodied A} (w : Place) (f : FormalType) → Alive lim n m → Alive lim n (for_an_array w f m)
+alive_for_an_array w (by_value t) h = alive_keeps (keeps_wrong w)
+alive_for_an_array w (by_name t) h = alive_keeps (keeps_wrong w)
+alive_for_an_array w (by_result t) h = alive_keeps (keeps_wrong w)
+alive_for_an_array w (by_value_result t) h = alive_keeps (keeps_wrong w)
+alive_for_an_array w (for_procedure result) h = alive_keeps (keeps_wrong w)
+alive_for_an_array w (for_array t n) h = h
+
 alive_name_ready : {lim n : ℕ} {m : M Bodied state.Given} (f : FormalType) (w p : Place) (a : Phrase) (e : Env) → Alive lim n m → Alive lim n (env.name_ready f w m p a e)
 alive_name_ready (by_value t) w p a e h = alive_value_ready w t h
 alive_name_ready (by_name t) w p a e h = alive_keeps (keeps_give _)
-alive_name_ready (for_procedure result) w p a e h = alive_keeps (keeps_handed w (head e a))
-alive_name_ready (for_array t n) w p a e h = alive_keeps (keeps_handed w (head e a))
+alive_name_ready (for_procedure result) w p a e h = alive_keeps (keeps_procedure_handed w (head e a))
+alive_name_ready (for_array t n) w p a e h = alive_keeps (keeps_array_handed w (head e a))
 alive_name_ready (by_result t) w p a e h = alive_keeps (keeps_wrong w)
 alive_name_ready (by_value_result t) w p a e h = alive_keeps (keeps_wrong w)
 
@@ -257,19 +287,19 @@ module _ (set : Setting) (later : env.Job → M Bodied state.Given) (n : ℕ) (h
   alive_steps w x i j k body e = alive_test (has_turn i j k) (alive_tick set w (hl (env.step_job w x i j k body e))) (alive_keeps (keeps_give _))
 
   -- a GOTO counts a step, and then jumps
-  jumped : (st : Place) (s : State Bodied) (b : Bool) → nat_lt s.steps set.steps ≡ b → (o : Option Thing) → Fine set.steps s
-      → Good set.steps s.steps (after (after (elim b [ true ↦ on (tt {0}) (record s { steps = s.steps + 1 }) | false ↦ stop (by_limit limit.Steps) st s ]) (λ x. note_begun st)) (λ x. env.went set later st o))
-  jumped st s true e (Some (to_label l)) f = let lt : s.steps < set.steps = omega (arith, nat_lt_means s.steps set.steps e) in (omega arith, record { steps = omega (arith, lt); begun = omega (arith, f.begun) })
-  jumped st s true e None f = let lt : s.steps < set.steps = omega (arith, nat_lt_means s.steps set.steps e) in ((λ x. cc), record { steps = omega (arith, lt); begun = omega (arith, f.begun) })
-  jumped st s true e (Some (to_constant v)) f = let lt : s.steps < set.steps = omega (arith, nat_lt_means s.steps set.steps e) in ((λ x. cc), record { steps = omega (arith, lt); begun = omega (arith, f.begun) })
-  jumped st s true e (Some (to_variable v)) f = let lt : s.steps < set.steps = omega (arith, nat_lt_means s.steps set.steps e) in ((λ x. cc), record { steps = omega (arith, lt); begun = omega (arith, f.begun) })
-  jumped st s true e (Some (to_array v g)) f = let lt : s.steps < set.steps = omega (arith, nat_lt_means s.steps set.steps e) in ((λ x. cc), record { steps = omega (arith, lt); begun = omega (arith, f.begun) })
-  jumped st s true e (Some (to_procedure v)) f = let lt : s.steps < set.steps = omega (arith, nat_lt_means s.steps set.steps e) in ((λ x. cc), record { steps = omega (arith, lt); begun = omega (arith, f.begun) })
-  jumped st s true e (Some (thunk m a g)) f = let lt : s.steps < set.steps = omega (arith, nat_lt_means s.steps set.steps e) in ((λ x. cc), record { steps = omega (arith, lt); begun = omega (arith, f.begun) })
-  jumped st s false e o f = ((λ x. cc), f)
+  jumped : (st : Place) (s : State Bodied) (b : Bool) → nat_lt s.steps set.steps ≡ b → (o : Option Thing)
+      → Good set.steps s (after (after (elim b [ true ↦ on (tt {0}) (step_more s) | false ↦ stop (by_limit limit.Steps) st s ]) (λ x. note_begun st)) (λ x. env.went set later st o))
+  jumped st s true e (Some (to_label l)) = (omega arith, begun_since set st s e)
+  jumped st s true e None = ((λ x. cc), begun_since set st s e)
+  jumped st s true e (Some (to_constant v)) = ((λ x. cc), begun_since set st s e)
+  jumped st s true e (Some (to_variable v)) = ((λ x. cc), begun_since set st s e)
+  jumped st s true e (Some (to_array v g)) = ((λ x. cc), begun_since set st s e)
+  jumped st s true e (Some (to_procedure v)) = ((λ x. cc), begun_since set st s e)
+  jumped st s true e (Some (thunk m a g)) = ((λ x. cc), begun_since set st s e)
+  jumped st s false e o = ((λ x. cc), same_since set.steps s)
 
   alive_goto : (st : Place) (o : Option Thing) → Alive set.steps (suc n) (begin set (Some st) >> env.went set later st o)
-  alive_goto st o = record { by = λ s f b. jumped st s (nat_lt s.steps set.steps) refl o f }
+  alive_goto st o = record { by = λ s b. jumped st s (nat_lt s.steps set.steps) refl o }
 
   alive_with_numbers : (w : Place) (ds : Decls) (is : Items) (e : Env) (d : Firsts → M Bodied (Unit {0})) (m : Env → M Bodied state.Given) → ((k : Firsts) → Alive set.steps (suc n) (d k)) → ((f : Env) → Alive set.steps (suc n) (m f)) → (k : Firsts) (bs : List Meant)
       → Alive set.steps (suc n) (env.with_numbers set later w ds is e d m k bs)
@@ -408,7 +438,7 @@ module _ (set : Setting) (later : env.Job → M Bodied state.Given) (n : ℕ) (h
     alive_actual : (a : Actual) (w : Place) (f : FormalType) (e : Env) → Alive set.steps (suc n) (env.go_actual set later a w f e)
     alive_actual (Given v g first a) w f e = alive_phrase_ready f w v g first a e (alive a for_value w e)
     alive_actual (Alone p a) w f e = alive_name_ready f w p a e (alive_invoked w true p (head e a) no_actuals e (λ fs. env.no_formals w fs) (λ fs bs. give tt) (λ fs. alive_keeps (keeps_no_formals w fs)) (λ fs bs. alive_keeps (keeps_give tt)))
-    alive_actual (Subarray a subs) w f e = alive_bind (alive_stars subs w e) (λ is. alive_subarray_at w (head e a) is)
+    alive_actual (Subarray a subs) w f e = alive_for_an_array w f (alive_bind (alive_stars subs w e) (λ is. alive_subarray_at w (head e a) is))
 
     alive_actuals : (ps : Actuals) (w : Place) (fs : List Formal) (e : Env) → Alive set.steps (suc n) (env.go_actuals set later ps w fs e)
     alive_actuals no_actuals w [] e = alive_keeps (keeps_give [])
@@ -439,5 +469,5 @@ module _ (set : Setting) (later : env.Job → M Bodied state.Given) (n : ℕ) (h
 
 -- the bound never stops a run
 pub alive_run : (set : Setting) (n : ℕ) (job : env.Job) → Alive set.steps n (env.run set n job)
-alive_run set zero job = record { by = λ s f b. absurd (omega (arith, f.steps, b)) }
+alive_run set zero job = record { by = λ s b. absurd (omega (arith, b)) }
 alive_run set (suc n) job = alive_does set (env.run set n) n (alive_run set n) job

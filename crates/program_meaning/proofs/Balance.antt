@@ -10,12 +10,12 @@ use Rattle.algolw_typing.specs.Meanings.{FormalType, by_name, by_value, by_resul
 use Rattle.program_meaning.specs.Phrases.{Phrase, Empty, Constant, Named, Variable, Array, Label, Procedure, Copied, Unary, Binary, Relation, IsClass, Element, Field, Part, Record, RecordAlone, IfThen, Case, Block, Call, Assign, WhileDo, ForStep, ForList, Goto, Assert, Write, Read, ReadCard, IoControl, Phrases, no_phrases, phrase_and, Targets, no_targets, target_and, Subscripts, no_subscripts, star_and, subscript_and, Actuals, no_actuals, actual_and, Actual, Given, Alone, Subarray, Items, no_items, item_and, Bounds, no_bounds, bound_and, Decls, no_decls, variables_and, arrays_and, procedure_and, Name, Formal, Mark, label_places}
 use Rattle.program_meaning.specs.Operations.{unary, binary, relation}
 use Rattle.program_meaning.specs.State as state
-use Rattle.program_meaning.specs.State.{State, Outcome, on, jump, stop, M, behind_first, with_shown, on_first, Setting, Why, by_fault, by_limit, wrong, unfinished, Entry, ShownName, Use, for_value, for_place, nothing, a_value, a_spot, Spot, whole, within, ArrayInfo, RecordInfo, a_number, in_block, in_call, in_actual, in_turn, after, ◌>>=◌, ◌>>◌, give, halt, fault_at, test, tick, note_begun, begin, innermost, take_cells, give_back, holding, push_entry, pop_entry, under, deeper, shallower, entered, show, value_in, value_of, spot_in, spot_of, integer_in, integer_of, truth_in, truth_of, string_in, record_in, answer_at, only_value, defined, look, put, variable, new, record_at, the_record, made, made_result, characters, string_held, put_string, store, assign, array_at, the_array, filled_in, all_within, subscripted, offset, elements, element_of, place_array, make_array, make_record, is_place_of, field_of, is_of_class, spot_within, string_answer, print, within_lines, put_pieces, read_so_far, set_read, scan_answer, Made, back_to, is_own, caught, catching, cells_held, set_cells, made_here, most_cells, most_depth, most_records, most_fields}
+use Rattle.program_meaning.specs.State.{State, Outcome, on, jump, stop, M, behind_first, with_shown, on_first, Setting, Why, by_fault, by_limit, wrong, unfinished, Entry, ShownName, Use, for_value, for_place, nothing, a_value, a_spot, Spot, whole, within, ArrayInfo, RecordInfo, a_number, in_block, in_call, in_actual, in_turn, after, ◌>>=◌, ◌>>◌, give, halt, fault_at, test, tick, note_begun, begin, innermost, take_cells, give_back, holding, push_entry, pop_entry, under, deeper, shallower, entered, show, value_in, value_of, spot_in, spot_of, integer_in, integer_of, truth_in, truth_of, string_in, record_in, answer_at, only_value, defined, look, put, variable, new, record_at, the_record, made, made_result, characters, string_held, put_string, store, assign, array_at, the_array, filled_in, all_within, subscripted, offset, elements, element_of, place_array, make_array, make_record, is_place_of, field_of, is_of_class, spot_within, string_answer, print, within_lines, put_pieces, read_so_far, set_read, scan_answer, Made, back_to, is_own, caught, catching, cells_held, set_cells, made_here, most_cells, most_depth, most_records, most_fields, for_an_array}
 use Rattle.program_meaning.specs.Copying.{Firsts, firsts, free, shown, declare_variables, declare_arrays, value_held, read_type, has_turn, case_number, cells_of, from}
 use Rattle.program_meaning.specs.Environments as env
 use Rattle.program_meaning.specs.Environments.{Env, empty, bind, find, Bodied, Meant, Thing, to_constant, to_variable, to_array, to_label, to_procedure, thunk, extend, head}
-use Rattle.program_meaning.proofs.Keeping.{Kept, Keeps, keeps_bind, keeps_then, keeps_test, keeps_give, keeps_wrong, keeps_fault, keeps_fresh, keeps_opened, keeps_value_in, keeps_spot_in, keeps_integer_in, keeps_truth_in, keeps_string_in, keeps_record_in, keeps_answer, keeps_look, keeps_variable, keeps_made, keeps_made_result, keeps_assign, keeps_the_array, keeps_element, keeps_make_record, keeps_field, keeps_class, keeps_within, keeps_string_answer, keeps_scan, keeps_take_card, keeps_io_control, keeps_written, keeps_no_actuals, keeps_handed, keeps_bound, keeps_compared, keeps_the_procedure}
-use Rattle.program_meaning.specs.Laws.{IsBalanced}
+use Rattle.program_meaning.proofs.Keeping.{Kept, Keeps, keeps_bind, keeps_then, keeps_test, keeps_give, keeps_wrong, keeps_fault, keeps_fresh, keeps_opened, keeps_value_in, keeps_spot_in, keeps_integer_in, keeps_truth_in, keeps_string_in, keeps_record_in, keeps_answer, keeps_look, keeps_variable, keeps_made, keeps_made_result, keeps_assign, keeps_the_array, keeps_element, keeps_make_record, keeps_field, keeps_class, keeps_within, keeps_string_answer, keeps_scan, keeps_take_card, keeps_io_control, keeps_written, keeps_no_actuals, keeps_procedure_handed, keeps_array_handed, keeps_bound, keeps_compared, keeps_the_procedure}
+use Rattle.program_meaning.specs.Laws.{IsAsMade, IsBalanced, MayBegin}
 
 pub record Balanced {A : Type 0} (m : M Bodied A) : Type 0 where
   pub by : (s : State Bodied) → IsBalanced s (m s)
@@ -172,11 +172,19 @@ balanced_phrase_ready (by_name t) w v g first a e h = balanced_keeps (keeps_give
 balanced_phrase_ready (for_procedure result) w v g first a e h = balanced_keeps (keeps_give _)
 balanced_phrase_ready (for_array t n) w v g first a e h = balanced_keeps (keeps_wrong w)
 
+balanced_for_an_array : {A : Type 0} {m : M Bodied A} (w : Place) (f : FormalType) → Balanced m → Balanced (for_an_array w f m)
+balanced_for_an_array w (by_value t) h = balanced_keeps (keeps_wrong w)
+balanced_for_an_array w (by_name t) h = balanced_keeps (keeps_wrong w)
+balanced_for_an_array w (by_result t) h = balanced_keeps (keeps_wrong w)
+balanced_for_an_array w (by_value_result t) h = balanced_keeps (keeps_wrong w)
+balanced_for_an_array w (for_procedure result) h = balanced_keeps (keeps_wrong w)
+balanced_for_an_array w (for_array t n) h = h
+
 balanced_name_ready : {m : M Bodied state.Given} (f : FormalType) (w p : Place) (a : Phrase) (e : Env) → Balanced m → Balanced (env.name_ready f w m p a e)
 balanced_name_ready (by_value t) w p a e h = balanced_value_ready w t h
 balanced_name_ready (by_name t) w p a e h = balanced_keeps (keeps_give _)
-balanced_name_ready (for_procedure result) w p a e h = balanced_keeps (keeps_handed w (head e a))
-balanced_name_ready (for_array t n) w p a e h = balanced_keeps (keeps_handed w (head e a))
+balanced_name_ready (for_procedure result) w p a e h = balanced_keeps (keeps_procedure_handed w (head e a))
+balanced_name_ready (for_array t n) w p a e h = balanced_keeps (keeps_array_handed w (head e a))
 balanced_name_ready (by_result t) w p a e h = balanced_keeps (keeps_wrong w)
 balanced_name_ready (by_value_result t) w p a e h = balanced_keeps (keeps_wrong w)
 
@@ -275,10 +283,6 @@ balanced_left e m h = record {
       left_at s s' (m n s') refl refl ((h n).by s');
 }
 
--- where a state is as when a block was made
-abbrev IsAsMade : Made → State Bodied → Type 0
-IsAsMade b s = (s.cells ≡ b.cells) × (s.depth ≡ b.depth) × (s.active ≡ b.active)
-
 resumed_at : (s : State Bodied) (b : Made) (k : ℕ → M Bodied state.Given) → IsAsMade b s → ((j : ℕ) (t : State Bodied) → IsAsMade b t → IsBalanced t (k j t)) → (r : Outcome Bodied state.Given) → IsBalanced s r → IsBalanced s (caught b k r)
 resumed_at s b k made h (on a t) r = r
 resumed_at s b k made h (jump l t) r = balanced_at s (is_own b l) _ _ (balanced_from s (back_to b t) (k (l - b.first) (back_to b t)) (sym made.0) (sym made.1) (sym made.2) (h (l - b.first) (back_to b t) (refl, refl, refl))) tt
@@ -293,15 +297,7 @@ balanced_catching l n m k h g = record {
 
 -- ---- what is done
 
--- the items of a block go on only as when it was made
-abbrev JobLevel : env.Job → State Bodied → Type 0
-JobLevel (env.phrase_job u w a e) s = Unit {0}
-JobLevel (env.while_job w c body e) s = Unit {0}
-JobLevel (env.step_job w x i j k body e) s = Unit {0}
-JobLevel (env.list_job w x i body e) s = Unit {0}
-JobLevel (env.items_job b w is e k) s = IsAsMade b s
-
-module _ (set : Setting) (later : env.Job → M Bodied state.Given) (hl : (job : env.Job) (s : State Bodied) → JobLevel job s → IsBalanced s (later job s)) where
+module _ (set : Setting) (later : env.Job → M Bodied state.Given) (hl : (job : env.Job) (s : State Bodied) → MayBegin job s → IsBalanced s (later job s)) where
   balanced_copied : (u : Use) (w : Place) (m : Mark) (a : Phrase) (e : Env) → Balanced (env.copied set later u w m a e)
   balanced_copied for_value w m a e = balanced_tick set w (balanced_bind (balanced_entered w (in_actual m.first) (record { by = λ s. hl (env.phrase_job for_value m.statement a e) s tt })) (λ r. balanced_keeps (keeps_made_result w m.type r)))
   balanced_copied for_place w m a e = balanced_tick set w (balanced_test m.is_variable (balanced_entered w (in_actual m.first) (record { by = λ s. hl (env.phrase_job for_place m.statement a e) s tt })) (balanced_keeps (keeps_fault fault.AssignmentToNoVariable w)))
@@ -485,7 +481,7 @@ module _ (set : Setting) (later : env.Job → M Bodied state.Given) (hl : (job :
     balanced_actual : (a : Actual) (w : Place) (f : FormalType) (e : Env) → Balanced (env.go_actual set later a w f e)
     balanced_actual (Given v g first a) w f e = balanced_phrase_ready f w v g first a e (balanced a for_value w e)
     balanced_actual (Alone p a) w f e = balanced_name_ready f w p a e (balanced_invoked w true p (head e a) no_actuals e (λ fs. env.no_formals w fs) (λ fs bs. give tt) (λ fs. moves_no_formals w fs) (λ fs bs. balanced_keeps (keeps_give tt)))
-    balanced_actual (Subarray a subs) w f e = balanced_moves (moves_bind (moves_stars subs 0 w e) (λ is. moves_subarray_at w (head e a) is))
+    balanced_actual (Subarray a subs) w f e = balanced_for_an_array w f (balanced_moves (moves_bind (moves_stars subs 0 w e) (λ is. moves_subarray_at w (head e a) is)))
 
     moves_actuals : (ps : Actuals) (c : ℕ) (w : Place) (fs : List Formal) (e : Env) → Moves c 0 (λ rs. c + length fs) 0 (env.go_actuals set later ps w fs e)
     moves_actuals no_actuals c w [] e = record { by = λ s b j p q. (omega (arith, p), q, refl) }
@@ -507,13 +503,13 @@ module _ (set : Setting) (later : env.Job → M Bodied state.Given) (hl : (job :
     balanced_back (actual_and (Alone p a) rest) w (f ∷ fs) (b ∷ bs) e = balanced_back rest w fs bs e
     balanced_back (actual_and (Subarray a subs) rest) w (f ∷ fs) (b ∷ bs) e = balanced_back rest w fs bs e
 
-  balanced_does : (job : env.Job) (s : State Bodied) → JobLevel job s → IsBalanced s (env.does set later job s)
+  balanced_does : (job : env.Job) (s : State Bodied) → MayBegin job s → IsBalanced s (env.does set later job s)
   balanced_does (env.phrase_job u w a e) s p = (balanced a u w e).by s
   balanced_does (env.while_job w c body e) s p = (balanced_then (balanced body for_value w e) (balanced_while w (balanced c for_value w e) c body e)).by s
   balanced_does (env.step_job w x i j k body e) s p = (balanced_then (balanced_under (in_turn w (shown x (a_number i))) (balanced body for_value w (env.at_control x i e))) (balanced_steps w x (i +ℤ j) j k body e)).by s
   balanced_does (env.list_job w x i body e) s p = (balanced_under (in_turn w (shown x (a_number i))) (balanced body for_value w (env.at_control x i e))).by s
   balanced_does (env.items_job b w is e k) s p = resumed_at s b (λ j. later (env.items_job b w is e j)) p (λ j t q. hl (env.items_job b w is e j) t q) (env.go_items set later (from k is) w e s) ((balanced_items (from k is) w e).by s)
 
-pub balanced_run : (set : Setting) (n : ℕ) (job : env.Job) (s : State Bodied) → JobLevel job s → IsBalanced s (env.run set n job s)
+pub balanced_run : (set : Setting) (n : ℕ) (job : env.Job) (s : State Bodied) → MayBegin job s → IsBalanced s (env.run set n job s)
 balanced_run set zero job s p = tt
 balanced_run set (suc n) job s p = balanced_does set (env.run set n) (balanced_run set n) job s p

@@ -233,14 +233,14 @@ pub keeps_subscripted : {A : Type 0} {m : M Bodied A} (w : Place) (a : ArrayInfo
 keeps_subscripted w a subs h = keeps_test (all_within a.bounds subs) h (keeps_fault fault.SubscriptOutsideBounds w)
 
 pub keeps_element : (u : Use) (w : Place) (k : ℕ) (subs : List (Option ℤ)) → Keeps (element_of u w k subs)
-keeps_element u w k subs = keeps_bind (keeps_the_array w k) (λ a. keeps_subscripted w a subs (keeps_variable u w (a.first + offset a.bounds subs)))
+keeps_element u w k subs = keeps_bind (keeps_the_array w k) (λ a. keeps_subscripted w a subs (keeps_test (nat_lt (offset a.bounds subs) (elements a.bounds)) (keeps_variable u w (a.first + offset a.bounds subs)) (keeps_wrong w)))
 
 pub keeps_make_record : (w : Place) (class : Name) (values : List (Option Value)) → Keeps (make_record w class values)
 keeps_make_record w class values = record { by = λ s. keeps_at s (std.◌&&◌ (nat_lt (length s.records) most_records) (nat_le (s.fields + length values) most_fields)) _ _ (record { steps = refl; begun = refl; cells = refl; depth = refl; active = refl }) ((λ x. cc), record { steps = refl; begun = refl; cells = refl; depth = refl; active = refl }) }
 
 pub keeps_field : (u : Use) (w class : Place) (position : ℕ) (r : Option RecordId) → Keeps (field_of u w class position r)
 keeps_field u w class position None = keeps_fault fault.ReferenceNull w
-keeps_field u w class position (Some r) = keeps_bind (keeps_the_record w r) (λ info. keeps_test (is_place_of class info) (keeps_variable u w (info.first + position)) (keeps_fault fault.WrongRecordClass w))
+keeps_field u w class position (Some r) = keeps_bind (keeps_the_record w r) (λ info. keeps_test (is_place_of class info) (keeps_test (nat_lt position info.count) (keeps_variable u w (info.first + position)) (keeps_wrong w)) (keeps_fault fault.WrongRecordClass w))
 
 pub keeps_class : (w class : Place) (r : Option RecordId) → Keeps (is_of_class w class r)
 keeps_class w class None = keeps_give _
@@ -286,14 +286,23 @@ pub keeps_no_actuals : (w : Place) (given : Actuals) → Keeps (no_actuals_given
 keeps_no_actuals w no_actuals = keeps_give tt
 keeps_no_actuals w (actual_and a rest) = keeps_fault fault.ActualsDoNotFit w
 
-pub keeps_handed : (w : Place) (o : Option Thing) → Keeps (env.handed w o)
-keeps_handed w None = keeps_wrong w
-keeps_handed w (Some (to_constant v)) = keeps_wrong w
-keeps_handed w (Some (to_variable k)) = keeps_wrong w
-keeps_handed w (Some (to_array k given)) = keeps_give _
-keeps_handed w (Some (to_label k)) = keeps_wrong w
-keeps_handed w (Some (to_procedure k)) = keeps_give _
-keeps_handed w (Some (thunk m a e)) = keeps_give _
+pub keeps_procedure_handed : (w : Place) (o : Option Thing) → Keeps (env.procedure_handed w o)
+keeps_procedure_handed w None = keeps_wrong w
+keeps_procedure_handed w (Some (to_constant v)) = keeps_wrong w
+keeps_procedure_handed w (Some (to_variable k)) = keeps_wrong w
+keeps_procedure_handed w (Some (to_array k given)) = keeps_wrong w
+keeps_procedure_handed w (Some (to_label k)) = keeps_wrong w
+keeps_procedure_handed w (Some (to_procedure k)) = keeps_give _
+keeps_procedure_handed w (Some (thunk m a e)) = keeps_give _
+
+pub keeps_array_handed : (w : Place) (o : Option Thing) → Keeps (env.array_handed w o)
+keeps_array_handed w None = keeps_wrong w
+keeps_array_handed w (Some (to_constant v)) = keeps_wrong w
+keeps_array_handed w (Some (to_variable k)) = keeps_wrong w
+keeps_array_handed w (Some (to_array k given)) = keeps_give _
+keeps_array_handed w (Some (to_label k)) = keeps_wrong w
+keeps_array_handed w (Some (to_procedure k)) = keeps_wrong w
+keeps_array_handed w (Some (thunk m a e)) = keeps_wrong w
 
 pub keeps_bound : (w : Place) (fs : List Formal) (rs : List env.Ready) → Keeps (env.bound w fs rs)
 keeps_bound w [] [] = keeps_give _

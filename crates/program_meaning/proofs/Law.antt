@@ -13,7 +13,7 @@ use Rattle.algolw_typing.specs.Actuals.{actuals_fit}
 use Rattle.program_meaning.specs.Phrases.{Phrase, Empty, Constant, Named, Variable, Array, Label, Procedure, Copied, Unary, Binary, Relation, IsClass, Element, Field, Part, Record, RecordAlone, IfThen, Case, Block, Call, Assign, WhileDo, ForStep, ForList, Goto, Assert, Write, Read, ReadCard, IoControl, Phrases, no_phrases, phrase_and, Targets, no_targets, target_and, Subscripts, no_subscripts, star_and, subscript_and, Actuals, no_actuals, actual_and, Actual, Given, Alone, Subarray, Items, no_items, item_and, Bounds, no_bounds, bound_and, Decls, no_decls, variables_and, arrays_and, procedure_and, Name, Formal, Mark, leaf, shape, phrases_shape, targets_shape, subscripts_shape, actuals_shape, actual_shape, items_shape, bounds_shape, decls_shape, with, with_phrases, with_targets, with_subscripts, with_actuals, with_actual, with_items, with_bounds, with_decls, kept, formal_places, label_places, block_places}
 use Rattle.program_meaning.specs.Operations.{unary, binary, relation}
 use Rattle.program_meaning.specs.State as state
-use Rattle.program_meaning.specs.State.{M, State, on, Setting, Use, for_value, for_place, nothing, a_value, wrong, unfinished, Made, a_number, in_block, in_call, in_actual, in_turn, ◌>>=◌, ◌>>◌, give, innermost, take_cells, test, catching, filled_in}
+use Rattle.program_meaning.specs.State.{M, State, on, Setting, Use, for_value, for_place, nothing, a_value, wrong, unfinished, Made, a_number, in_block, in_call, in_actual, in_turn, ◌>>=◌, ◌>>◌, give, innermost, take_cells, test, catching, filled_in, for_an_array}
 use Rattle.program_meaning.specs.Copying as copying
 use Rattle.program_meaning.specs.Copying.{Closed, Put, puts, Firsts, shown, has_turn, mark, is_variable_of, read_type, case_number, assigned, cells_of, from, is_good, formal_types, actual_count, free_of, stars, array_part}
 use Rattle.program_meaning.specs.Environments as environments
@@ -46,31 +46,52 @@ same_phrase_ready (by_name t) w v g first a e h = record { by = λ s. refl }
 same_phrase_ready (for_procedure result) w v g first a e h = record { by = λ s. refl }
 same_phrase_ready (for_array t n) w v g first a e h = same_halt closed_ready wrong w
 
-handed_shut : (w x : Place) (o : Option Thing) → Same closed_ready (environments.handed w o) (copying.handed w (shut_or x o))
-handed_shut w x None = same_halt closed_ready wrong w
-handed_shut w x (Some (to_constant v)) = same_halt closed_ready wrong w
-handed_shut w x (Some (to_variable k)) = same_halt closed_ready wrong w
-handed_shut w x (Some (to_array k given)) = record { by = λ s. refl }
-handed_shut w x (Some (to_label k)) = same_halt closed_ready wrong w
-handed_shut w x (Some (to_procedure k)) = record { by = λ s. refl }
-handed_shut w x (Some (thunk m a e)) = record { by = λ s. refl }
+procedure_handed_shut : (w x : Place) (o : Option Thing) → Same closed_ready (environments.procedure_handed w o) (copying.procedure_handed w (shut_or x o))
+procedure_handed_shut w x None = same_halt closed_ready wrong w
+procedure_handed_shut w x (Some (to_constant v)) = same_halt closed_ready wrong w
+procedure_handed_shut w x (Some (to_variable k)) = same_halt closed_ready wrong w
+procedure_handed_shut w x (Some (to_array k given)) = same_halt closed_ready wrong w
+procedure_handed_shut w x (Some (to_label k)) = same_halt closed_ready wrong w
+procedure_handed_shut w x (Some (to_procedure k)) = record { by = λ s. refl }
+procedure_handed_shut w x (Some (thunk m a e)) = record { by = λ s. refl }
+
+array_handed_shut : (w x : Place) (o : Option Thing) → Same closed_ready (environments.array_handed w o) (copying.array_handed w (shut_or x o))
+array_handed_shut w x None = same_halt closed_ready wrong w
+array_handed_shut w x (Some (to_constant v)) = same_halt closed_ready wrong w
+array_handed_shut w x (Some (to_variable k)) = same_halt closed_ready wrong w
+array_handed_shut w x (Some (to_array k given)) = record { by = λ s. refl }
+array_handed_shut w x (Some (to_label k)) = same_halt closed_ready wrong w
+array_handed_shut w x (Some (to_procedure k)) = same_halt closed_ready wrong w
+array_handed_shut w x (Some (thunk m a e)) = same_halt closed_ready wrong w
 
 -- a copied actual is closed
 mark_shut : (m : Mark) (a : Phrase) → shut (thunk m a empty) ≡ Copied m a
 mark_shut m a = ap (Copied m) (with_none a (put_by empty) (λ y. refl))
 
-same_handed : (w : Place) (e : Env) (a : Phrase) → Same closed_ready (environments.handed w (head e a)) (copying.handed w (with (put_by e) a))
-same_handed w e (Named x) = rw (put_find e x) (handed_shut w x (find e x))
-same_handed w e (Copied m a) = record { by = λ s. ap (λ p. on (copying.put_for p) (closed_state s)) (mark_shut m a) }
-same_handed w e _ = record { by = λ s. refl }
+same_procedure_handed : (w : Place) (e : Env) (a : Phrase) → Same closed_ready (environments.procedure_handed w (head e a)) (copying.procedure_handed w (with (put_by e) a))
+same_procedure_handed w e (Named x) = rw (put_find e x) (procedure_handed_shut w x (find e x))
+same_procedure_handed w e (Copied m a) = record { by = λ s. ap (λ p. on (copying.put_for p) (closed_state s)) (mark_shut m a) }
+same_procedure_handed w e _ = record { by = λ s. refl }
+
+same_array_handed : (w : Place) (e : Env) (a : Phrase) → Same closed_ready (environments.array_handed w (head e a)) (copying.array_handed w (with (put_by e) a))
+same_array_handed w e (Named x) = rw (put_find e x) (array_handed_shut w x (find e x))
+same_array_handed w e _ = record { by = λ s. refl }
 
 same_name_ready : {m : M Bodied state.Given} {m' : M Closed state.Given} (f : FormalType) (w p : Place) (a : Phrase) (e : Env) → Same i m m' → Same closed_ready (environments.name_ready f w m p a e) (copying.name_ready f w m' p (with (put_by e) a))
 same_name_ready (by_value t) w p a e h = same_value_ready w t h
 same_name_ready (by_name t) w p a e h = record { by = λ s. refl }
-same_name_ready (for_procedure result) w p a e h = same_handed w e a
-same_name_ready (for_array t n) w p a e h = same_handed w e a
+same_name_ready (for_procedure result) w p a e h = same_procedure_handed w e a
+same_name_ready (for_array t n) w p a e h = same_array_handed w e a
 same_name_ready (by_result t) w p a e h = same_halt closed_ready wrong w
 same_name_ready (by_value_result t) w p a e h = same_halt closed_ready wrong w
+
+same_for_an_array : {A B : Type 0} {f : A → B} {m : M Bodied A} {m' : M Closed B} (w : Place) (t : FormalType) → Same f m m' → Same f (for_an_array w t m) (for_an_array w t m')
+same_for_an_array {f = f} w (by_value t) h = same_halt f wrong w
+same_for_an_array {f = f} w (by_name t) h = same_halt f wrong w
+same_for_an_array {f = f} w (by_result t) h = same_halt f wrong w
+same_for_an_array {f = f} w (by_value_result t) h = same_halt f wrong w
+same_for_an_array {f = f} w (for_procedure result) h = same_halt f wrong w
+same_for_an_array w (for_array t n) h = h
 
 held_of_same : (t : Thing) → copying.held_of (shut t) ≡ environments.held_of t
 held_of_same (to_constant v) = refl
@@ -432,7 +453,7 @@ module _ (set : Setting) (later : environments.Job → M Bodied state.Given) (la
     law_actual : (a : Actual) (w : Place) (f : FormalType) (e : Env) → Same closed_ready (environments.go_actual set later a w f e) (copying.go_actual set later' (actual_shape a) w f (with_actual (put_by e) a))
     law_actual (Given v g first a) w f e = same_phrase_ready f w v g first a e (law a for_value w e)
     law_actual (Alone p a) w f e = same_name_ready f w p a e (same_invoked w true p a no_actuals e (λ fs. environments.no_formals w fs) (λ fs. copying.no_formals w fs) (λ fs bs. give tt) (λ fs bs. give tt) (λ fs. same_no_formals w fs) (λ fs bs. same_give i tt))
-    law_actual (Subarray a subs) w f e = same_bind _ (law_stars subs w e) (λ is. same_subarray_at w e a is)
+    law_actual (Subarray a subs) w f e = same_for_an_array w f (same_bind _ (law_stars subs w e) (λ is. same_subarray_at w e a is))
 
     law_actuals : (ps : Actuals) (w : Place) (fs : List Formal) (e : Env) → Same (map closed_ready) (environments.go_actuals set later ps w fs e) (copying.go_actuals set later' (actuals_shape ps) w fs (with_actuals (put_by e) ps))
     law_actuals no_actuals w [] e = record { by = λ s. refl }

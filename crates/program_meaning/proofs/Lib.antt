@@ -5,5 +5,6 @@ pub mod Law
 pub mod Keeping
 pub mod Alive
 pub mod Runs
+pub mod Opening
 pub mod Balance
 pub mod Balanced

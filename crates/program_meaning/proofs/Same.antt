@@ -284,7 +284,7 @@ pub same_subscripted : {A B : Type 0} {f : A → B} {m : M Bodied A} {m' : M Clo
 same_subscripted {f = f} w a subscripts h = same_test (all_within a.bounds subscripts) h (same_fault f fault.SubscriptOutsideBounds w)
 
 pub same_element : (u : Use) (w : Place) (k : ℕ) (subscripts : List (Option ℤ)) → Same i (element_of u w k subscripts) (element_of u w k subscripts)
-same_element u w k subscripts = same_bind _ (same_the_array w k) (λ a. same_subscripted w a subscripts (same_variable u w (a.first + offset a.bounds subscripts)))
+same_element u w k subscripts = same_bind _ (same_the_array w k) (λ a. same_subscripted w a subscripts (same_test (nat_lt (offset a.bounds subscripts) (elements a.bounds)) (same_variable u w (a.first + offset a.bounds subscripts)) (same_halt i wrong w)))
 
 pub same_make_array : (w : Place) (k : ℕ) (t : ValueType) (bounds : List (ℤ × ℤ)) → Same i (make_array w k t bounds) (make_array w k t bounds)
 same_make_array w k t bounds = same_then (same_take (1 + elements bounds) w) (record { by = λ s. refl })
@@ -294,7 +294,7 @@ same_make_record w class values = record { by = λ s. test_same i (std.◌&&◌ 
 
 pub same_field : (u : Use) (w class : Place) (position : ℕ) (r : Option RecordId) → Same i (field_of u w class position r) (field_of u w class position r)
 same_field u w class position None = same_fault i fault.ReferenceNull w
-same_field u w class position (Some r) = same_bind _ (same_the_record w r) (λ info. same_test (is_place_of class info) (same_variable u w (info.first + position)) (same_fault i fault.WrongRecordClass w))
+same_field u w class position (Some r) = same_bind _ (same_the_record w r) (λ info. same_test (is_place_of class info) (same_test (nat_lt position info.count) (same_variable u w (info.first + position)) (same_halt i wrong w)) (same_fault i fault.WrongRecordClass w))
 
 pub same_class : (w class : Place) (r : Option RecordId) → Same i (is_of_class w class r) (is_of_class w class r)
 same_class w class None = same_give i _

@@ -1,5 +1,5 @@
 -- What a phrase does, by copying: a call means a copy of the procedure's body in which the formals are replaced.
-use Rattle.std.specs.Prelude.{ℕ, zero, suc, ◌+◌, ◌-◌, ◌*◌, ℤ, pos, negsuc, ◌+ℤ◌, int_le, List, [], ◌∷◌, ◌++◌, map, length, replicate, Option, Some, None, Result, Ok, Err, Bool, true, false, not, ◌&&◌, nat_eq, nat_lt, slice_get}
+use Rattle.std.specs.Prelude.{ℕ, zero, suc, ◌+◌, ◌-◌, ◌*◌, ℤ, pos, negsuc, ◌+ℤ◌, int_le, List, [], ◌∷◌, ◌++◌, map, length, replicate, Option, Some, None, Result, Ok, Err, Bool, true, false, ◌&&◌, nat_eq, nat_lt, slice_get}
 use Rattle.std.specs.Ordering.{int_eq}
 use Rattle.value_ops.specs.declared.places.Place.{Place}
 use Rattle.value_ops.specs.declared.faults.Fault.{Fault}
@@ -21,7 +21,7 @@ use Rattle.input_editing.specs.Scanning.{scanned}
 use Rattle.program_meaning.specs.Phrases.{Phrase, Empty, Constant, Named, Variable, Array, Label, Procedure, Copied, Unary, Binary, Relation, IsClass, Element, Field, Part, Record, RecordAlone, IfThen, Case, Block, Call, Assign, WhileDo, ForStep, ForList, Goto, Assert, Write, Read, ReadCard, IoControl, Phrases, no_phrases, phrase_and, Targets, no_targets, target_and, Subscripts, no_subscripts, star_and, subscript_and, Actuals, no_actuals, actual_and, Actual, Given, Alone, Subarray, Items, no_items, item_and, Bounds, no_bounds, bound_and, Decls, no_decls, variables_and, arrays_and, procedure_and, Name, Formal, Mark, Shape, leaf, one, two, three, shape, items_shape, with, with_items, kept, formal_places, label_places}
 use Rattle.program_meaning.specs.Operations.{unary, binary, relation}
 use Rattle.program_meaning.specs.State as state
-use Rattle.program_meaning.specs.State.{M, State, Outcome, on, jump, stop, Setting, Use, for_value, for_place, nothing, a_value, a_spot, Spot, wrong, unfinished, ArrayInfo, Held, a_variable, an_array, a_number, a_procedure, ShownName, in_block, in_call, in_actual, in_turn, ◌>>=◌, ◌>>◌, give, halt, fault_at, test, tick, begin, innermost, take_cells, give_back, holding, push_entry, pop_entry, deeper, shallower, under, entered, show, value_of, spot_of, integer_of, truth_of, string_in, record_in, answer_at, only_value, variable, look, new, made, made_result, assign, the_array, filled_in, subscripted, element_of, make_array, make_record, field_of, is_of_class, spot_within, string_answer, print, put_pieces, read_so_far, set_read, scan_answer, Made, catching, cells_held, set_cells, made_here}
+use Rattle.program_meaning.specs.State.{M, State, Outcome, on, jump, stop, Setting, Use, for_value, for_place, nothing, a_value, a_spot, Spot, wrong, unfinished, ArrayInfo, Held, a_variable, an_array, a_number, a_procedure, ShownName, in_block, in_call, in_actual, in_turn, ◌>>=◌, ◌>>◌, give, halt, fault_at, test, tick, begin, innermost, take_cells, give_back, holding, push_entry, pop_entry, deeper, shallower, under, entered, show, value_of, spot_of, integer_of, truth_of, string_in, record_in, answer_at, only_value, variable, look, new, made, made_result, assign, the_array, filled_in, subscripted, element_of, make_array, make_record, field_of, is_of_class, spot_within, string_answer, print, put_pieces, read_so_far, set_read, scan_answer, Made, catching, cells_held, set_cells, made_here, for_an_array}
 
 -- a procedure in which every name but its formals is replaced, and the innermost statement round its declaration
 pub record Closed : Type 0 where
@@ -150,18 +150,21 @@ phrase_ready (for_procedure result) w m v g first a = give (put_for (Copied (mar
 phrase_ready (for_array t n) w m v g first a = halt wrong w
 
 -- what is put for a procedure or an array formal whose actual is a name alone: what is put for that name
-abbrev pub handed : Place → Phrase → M Closed Ready
-handed w (Procedure k) = give (put_for (Procedure k))
-handed w (Copied mark a) = give (put_for (Copied mark a))
-handed w (Array k given) = give (put_for (Array k given))
-handed w a = halt wrong w
+abbrev pub procedure_handed : Place → Phrase → M Closed Ready
+procedure_handed w (Procedure k) = give (put_for (Procedure k))
+procedure_handed w (Copied mark a) = give (put_for (Copied mark a))
+procedure_handed w a = halt wrong w
+
+abbrev pub array_handed : Place → Phrase → M Closed Ready
+array_handed w (Array k given) = give (put_for (Array k given))
+array_handed w a = halt wrong w
 
 -- the name alone of an array or a procedure; where a value is wanted it is called, which m does
 abbrev pub name_ready : FormalType → Place → M Closed state.Given → Place → Phrase → M Closed Ready
 name_ready (by_value t) w m p a = value_ready w t m
 name_ready (by_name t) w m p a = give (put_for (Copied (mark w p (Some t) false) (Call None true p a no_actuals)))
-name_ready (for_procedure result) w m p a = handed w a
-name_ready (for_array t n) w m p a = handed w a
+name_ready (for_procedure result) w m p a = procedure_handed w a
+name_ready (for_array t n) w m p a = array_handed w a
 name_ready (by_result t) w m p a = halt wrong w
 name_ready (by_value_result t) w m p a = halt wrong w
 
@@ -509,7 +512,7 @@ module _ (set : Setting) (later : Job → M Closed state.Given) where
     pub go_actual : Shape → Place → FormalType → Actual → M Closed Ready
     go_actual (one x) w f (Given v g first a) = phrase_ready f w (go x for_value w a) v g first a
     go_actual leaf w f (Alone p a) = name_ready f w (invoked w true p a no_actuals (λ fs. no_formals w fs) (λ fs bs. give tt)) p a
-    go_actual (one x) w f (Subarray a subscripts) = go_stars x w subscripts >>= subarray_at w a
+    go_actual (one x) w f (Subarray a subscripts) = for_an_array w f (go_stars x w subscripts >>= subarray_at w a)
     go_actual x w f a = halt wrong w
 
     -- each formal takes a cell once its actual is ready

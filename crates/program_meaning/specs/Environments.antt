@@ -14,7 +14,7 @@ use Rattle.algolw_typing.specs.Actuals.{actuals_fit, procedure_name, wants_proce
 use Rattle.program_meaning.specs.Phrases.{Phrase, Empty, Constant, Named, Variable, Array, Label, Procedure, Copied, Unary, Binary, Relation, IsClass, Element, Field, Part, Record, RecordAlone, IfThen, Case, Block, Call, Assign, WhileDo, ForStep, ForList, Goto, Assert, Write, Read, ReadCard, IoControl, Phrases, no_phrases, phrase_and, Targets, no_targets, target_and, Subscripts, no_subscripts, star_and, subscript_and, Actuals, no_actuals, actual_and, Actual, Given, Alone, Subarray, Items, no_items, item_and, Bounds, no_bounds, bound_and, Decls, no_decls, variables_and, arrays_and, procedure_and, Name, Formal, Mark, label_places}
 use Rattle.program_meaning.specs.Operations.{unary, binary, relation}
 use Rattle.program_meaning.specs.State as state
-use Rattle.program_meaning.specs.State.{M, State, Outcome, on, jump, stop, Setting, Use, for_value, for_place, nothing, a_value, wrong, unfinished, Held, a_variable, an_array, a_number, a_procedure, ShownName, in_block, in_call, in_actual, in_turn, ◌>>=◌, ◌>>◌, give, halt, fault_at, test, tick, begin, innermost, take_cells, give_back, holding, deeper, shallower, under, entered, value_of, spot_of, integer_of, truth_of, string_in, record_in, answer_at, only_value, variable, look, new, made, made_result, assign, the_array, filled_in, subscripted, element_of, make_record, field_of, is_of_class, spot_within, string_answer, Made, catching, cells_held, set_cells, made_here}
+use Rattle.program_meaning.specs.State.{M, State, Outcome, on, jump, stop, Setting, Use, for_value, for_place, nothing, a_value, wrong, unfinished, Held, a_variable, an_array, a_number, a_procedure, ShownName, in_block, in_call, in_actual, in_turn, ◌>>=◌, ◌>>◌, give, halt, fault_at, test, tick, begin, innermost, take_cells, give_back, holding, deeper, shallower, under, entered, value_of, spot_of, integer_of, truth_of, string_in, record_in, answer_at, only_value, variable, look, new, made, made_result, assign, the_array, filled_in, subscripted, element_of, make_record, field_of, is_of_class, spot_within, string_answer, Made, catching, cells_held, set_cells, made_here, for_an_array}
 use Rattle.program_meaning.specs.Copying.{dimensions, free, variable_count, array_count, Firsts, firsts, shown, declare_variables, declare_arrays, from, is_variable_of, mark, formal_types, stars, free_of, array_part, actual_count, is_good, no_actuals_given, has_turn, read_type, scan, take_card, io_control, value_written, assigned, case_number, cells_of, value_held}
 
 mutual
@@ -115,17 +115,21 @@ phrase_ready (by_name t) w m v g first a e = give (put_for (thunk (mark w first 
 phrase_ready (for_procedure result) w m v g first a e = give (put_for (thunk (mark w first result false) a e))
 phrase_ready (for_array t n) w m v g first a e = halt wrong w
 
-abbrev pub handed : Place → Option Thing → M Bodied Ready
-handed w (Some (to_procedure k)) = give (put_for (to_procedure k))
-handed w (Some (thunk m a e)) = give (put_for (thunk m a e))
-handed w (Some (to_array k given)) = give (put_for (to_array k given))
-handed w o = halt wrong w
+-- for a procedure formal, and for an array
+abbrev pub procedure_handed : Place → Option Thing → M Bodied Ready
+procedure_handed w (Some (to_procedure k)) = give (put_for (to_procedure k))
+procedure_handed w (Some (thunk m a e)) = give (put_for (thunk m a e))
+procedure_handed w o = halt wrong w
+
+abbrev pub array_handed : Place → Option Thing → M Bodied Ready
+array_handed w (Some (to_array k given)) = give (put_for (to_array k given))
+array_handed w o = halt wrong w
 
 abbrev pub name_ready : FormalType → Place → M Bodied state.Given → Place → Phrase → Env → M Bodied Ready
 name_ready (by_value t) w m p a e = value_ready w t m
 name_ready (by_name t) w m p a e = give (put_for (thunk (mark w p (Some t) false) (Call None true p a no_actuals) e))
-name_ready (for_procedure result) w m p a e = handed w (head e a)
-name_ready (for_array t n) w m p a e = handed w (head e a)
+name_ready (for_procedure result) w m p a e = procedure_handed w (head e a)
+name_ready (for_array t n) w m p a e = array_handed w (head e a)
 name_ready (by_result t) w m p a e = halt wrong w
 name_ready (by_value_result t) w m p a e = halt wrong w
 
@@ -363,7 +367,7 @@ module _ (set : Setting) (later : Job → M Bodied state.Given) where
     pub go_actual : Actual → Place → FormalType → Env → M Bodied Ready
     go_actual (Given v g first a) w f e = phrase_ready f w (go a for_value w e) v g first a e
     go_actual (Alone p a) w f e = name_ready f w (invoked w true p (head e a) no_actuals e (λ fs. no_formals w fs) (λ fs bs. give tt)) p a e
-    go_actual (Subarray a subscripts) w f e = go_stars subscripts w e >>= subarray_at w (head e a)
+    go_actual (Subarray a subscripts) w f e = for_an_array w f (go_stars subscripts w e >>= subarray_at w (head e a))
 
     pub go_actuals : Actuals → Place → List Formal → Env → M Bodied (List Ready)
     go_actuals no_actuals w [] e = give []

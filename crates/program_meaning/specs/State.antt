@@ -10,6 +10,7 @@ use Rattle.value_ops.specs.declared.values.Value.TheVariants as value
 use Rattle.value_ops.specs.declared.values.RecordId.{RecordId}
 use Rattle.value_ops.specs.Strings.{filled, with_part}
 use Rattle.short_text.specs.Blanks.{blanks}
+use Rattle.algolw_typing.specs.Meanings.{FormalType, for_array}
 use Rattle.algolw_typing.specs.Types.{ValueType, Integer, Logical, Bits, Str, Reference, has}
 use Rattle.output_editing.specs.Layout.{Piece, lay}
 use Rattle.program_meaning.specs.Phrases.{Name}
@@ -23,10 +24,11 @@ pub record ArrayInfo : Type 0 where
   pub bounds : List (ℤ × ℤ)
   pub first : ℕ
 
--- a record: its class, and the first of its fields among the variables
+-- a record: its class, the first of its fields among the variables, and how many they are
 pub record RecordInfo : Type 0 where
   pub class : Name
   pub first : ℕ
+  pub count : ℕ
 
 -- what a name that is shown stands for
 pub data Held : Type 0 where
@@ -379,8 +381,17 @@ offset bounds subscripts = 0
 abbrev pub subscripted : {P A : Type 0} → Place → ArrayInfo → List (Option ℤ) → M P A → M P A
 subscripted w a subscripts m = test (all_within a.bounds subscripts) m (fault_at fault.SubscriptOutsideBounds w)
 
+-- an element, which the array has
+abbrev pub element_in : {P : Type 0} → Use → Place → ArrayInfo → ℕ → M P Given
+element_in u w a n = test (nat_lt n (elements a.bounds)) (variable u w (a.first + n)) (halt wrong w)
+
 abbrev pub element_of : {P : Type 0} → Use → Place → ℕ → List (Option ℤ) → M P Given
-element_of u w k subscripts = the_array w k >>= λ a. subscripted w a subscripts (variable u w (a.first + offset a.bounds subscripts))
+element_of u w k subscripts = the_array w k >>= λ a. subscripted w a subscripts (element_in u w a (offset a.bounds subscripts))
+
+-- what is done for the formal of an array, and for no other
+abbrev pub for_an_array : {P A : Type 0} → Place → FormalType → M P A → M P A
+for_an_array w (for_array t n) m = m
+for_an_array w f m = halt wrong w
 
 -- an array gets its elements, without values
 abbrev pub place_array : {P : Type 0} → ℕ → ValueType → List (ℤ × ℤ) → M P (Unit {0})
@@ -396,17 +407,21 @@ make_array w k t bounds = take_cells (1 + elements bounds) w >> place_array k t 
 abbrev pub make_record : {P : Type 0} → Place → Name → List (Option Value) → M P Given
 make_record w class values s =
     elim (nat_lt (length s.records) most_records && nat_le (s.fields + length values) most_fields) [
-      | true ↦ on (a_value (value.Reference (Some (record { 0 = length s.records })))) (record s { records = s.records ++ record { class = class; first = length s.memory } ∷ []; memory = s.memory ++ values; fields = s.fields + length values })
+      | true ↦ on (a_value (value.Reference (Some (record { 0 = length s.records })))) (record s { records = s.records ++ record { class = class; first = length s.memory; count = length values } ∷ []; memory = s.memory ++ values; fields = s.fields + length values })
       | false ↦ stop (by_limit limit.Records) w s
     ]
 
 abbrev pub is_place_of : Place → RecordInfo → Bool
 is_place_of class info = has (class ∷ []) info.class.place
 
+-- a field of a record, which has it
+abbrev pub field_in : {P : Type 0} → Use → Place → ℕ → RecordInfo → M P Given
+field_in u w position info = test (nat_lt position info.count) (variable u w (info.first + position)) (halt wrong w)
+
 -- F7 of NULL, F8 of another class
 abbrev pub field_of : {P : Type 0} → Use → Place → Place → ℕ → Option RecordId → M P Given
 field_of u w class position None = fault_at fault.ReferenceNull w
-field_of u w class position (Some r) = the_record w r >>= λ info. test (is_place_of class info) (variable u w (info.first + position)) (fault_at fault.WrongRecordClass w)
+field_of u w class position (Some r) = the_record w r >>= λ info. test (is_place_of class info) (field_in u w position info) (fault_at fault.WrongRecordClass w)
 
 abbrev pub is_of_class : {P : Type 0} → Place → Place → Option RecordId → M P Given
 is_of_class w class None = give (a_value (value.Logical false))

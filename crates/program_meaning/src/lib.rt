@@ -5,5 +5,6 @@
 mod laws;
 
 pub use laws::{
-    environments_give_what_copying_gives, phrases_are_balanced, runs_keep_their_limits,
+    bounded_runs_end, environments_give_what_copying_gives, phrases_are_balanced,
+    runs_keep_their_limits,
 };

@@ -1,5 +1,5 @@
-use Rattle.algolw_meaning.proofs.Found.{deck_found}
+use Rattle.algolw_meaning.proofs.Found.{diagnostics_of_decks}
 use Rattle.algolw_meaning.proofs.laws.diagnostics_of_decks.Goals as goal
 
 pub returns : goal.returns
-returns c = deck_found
+returns c = diagnostics_of_decks
