@@ -1,0 +1,64 @@
+-- The program of a deck without faults is never wrong, and so no job ends wrong.
+use Rattle.std.specs.Prelude.{◌≡◌, ◌==◌, ◌⊎◌, ℕ, List, [], ◌∷◌, Bool, true, false, ◌&&◌, ◌||◌, codes}
+use Rattle.value_ops.specs.declared.places.Diagnostic.{Diagnostic}
+use Rattle.deck_reader.specs.JobView.{JobView}
+use Rattle.algolw_tree.specs.declared.tokens.Token.{Token}
+use Rattle.algolw_tree.specs.Tokens.{AreTokens}
+use Rattle.algolw_tree.specs.Tree.{Phrase}
+use Rattle.algolw_tree.specs.Parts.{Beyond}
+use Rattle.algolw_tree.specs.Programs.{Spells}
+use Rattle.algolw_typing.specs.Faults.{program_faults}
+use Rattle.algolw_typing.specs.Programs.{program_of}
+use Rattle.program_meaning.specs.State.{Setting, Outcome, Given}
+use Rattle.program_meaning.specs.Copying.{Closed}
+use Rattle.program_meaning.specs.Results.{ending_text}
+use Rattle.program_meaning.specs.Translating.{program_phrase}
+use Rattle.program_soundness.specs.Laws.{IsNeverWrong, NeverGoesWrong}
+use Rattle.faultless_programs.specs.Laws.{IsDeckTree}
+use Rattle.algolw_meaning.specs.DeckDiagnostics.{HasProgram, deck_diagnostics}
+use Rattle.algolw_meaning.specs.Meaning.{JobResult, diagnosed}
+use Rattle.algolw_meaning.specs.Running.{program_outcome, run_result, job_result}
+
+-- What the tokens of a deck spell is a tree of a deck: its declarations stand apart, and no quoted text is empty.
+abbrev pub TreesOfDecks : Type 0
+TreesOfDecks = (deck : List (List ℕ)) (tokens : List Token) (x : Phrase) (b : Beyond) → AreTokens deck tokens → Spells tokens x b → IsDeckTree x
+
+-- The tokens of a deck that has no diagnostic spell a program, which, run with any data and limits, is never wrong.
+abbrev pub DecksAreNeverWrong : Type 0
+DecksAreNeverWrong = (deck : List (List ℕ)) → deck_diagnostics deck ≡ [] → (x : Phrase) × HasProgram deck x × ((set : Setting) → NeverGoesWrong set (program_phrase (program_of x)))
+
+-- ---- jobs
+
+-- whether it is a front of the text
+abbrev pub begins_with : List ℕ → List ℕ → Bool
+begins_with [] text = true
+begins_with (c ∷ front) [] = false
+begins_with (c ∷ front) (d ∷ text) = (c == d) && begins_with front text
+
+-- the text of an ending that no program should have
+abbrev pub is_wrong_text : List ℕ → Bool
+is_wrong_text text = begins_with (codes "WRONG") text || begins_with (codes "UNFINISHED") text
+
+-- The text of an ending tells whether the run was wrong.
+abbrev pub TextsTellWrong : Type 0
+TextsTellWrong = (o : Outcome Closed Given) → (IsNeverWrong o × (is_wrong_text (ending_text o) ≡ false)) ⊎ ((IsNeverWrong o → ⊥) × (is_wrong_text (ending_text o) ≡ true))
+
+-- The result shows diagnostics.
+pub record IsDiagnosed (job : JobView) (result : JobResult) : Type 0 where
+  pub first : Diagnostic
+  pub others : List Diagnostic
+  pub is : result ≡ diagnosed (first ∷ others) job
+
+-- The tokens of the job's deck spell a program without faults, and the result is that of its run, which ends normally, or by a fault or a limit;
+-- so the text that tells its ending isn't that of a run that is wrong.
+pub record IsRun (job : JobView) (result : JobResult) : Type 0 where
+  pub program : Phrase
+  pub spelled : HasProgram job.deck program
+  pub faultless : program_faults program ≡ []
+  pub is : result ≡ run_result job (program_of program).statements (program_outcome job (program_of program))
+  pub never_wrong : IsNeverWrong (program_outcome job (program_of program))
+  pub text : is_wrong_text (ending_text (program_outcome job (program_of program))) ≡ false
+
+-- Every job is diagnosed, or it is run and never wrong.
+abbrev pub JobsAreNeverWrong : Type 0
+JobsAreNeverWrong = (job : JobView) → IsDiagnosed job (job_result job) ⊎ IsRun job (job_result job)
