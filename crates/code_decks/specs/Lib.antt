@@ -1,0 +1,4 @@
+pub mod CodeRows
+pub mod CodeTables
+pub mod MoreDecks
+pub mod BatchDecks

@@ -1,0 +1,6 @@
+pub mod Sizes
+pub mod Parts
+pub mod Targets
+pub mod Pieces
+pub mod CallPieces
+pub mod Fitting

@@ -1,0 +1,4 @@
+pub mod Sizes
+pub mod Marks
+pub mod Coding
+pub mod Laws

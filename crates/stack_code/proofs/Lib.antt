@@ -1,0 +1,5 @@
+pub mod Outcomes
+pub mod Fit
+pub mod Keeping
+pub mod Growing
+pub mod Numbers

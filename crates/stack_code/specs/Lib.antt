@@ -1,0 +1,12 @@
+pub mod Machine
+pub mod Instr
+pub mod Code
+pub mod Doing
+pub mod Table
+pub mod Run
+pub mod Fit
+pub mod GoingOn
+pub mod Laws
+pub mod CodeView
+pub mod Making
+pub mod Made

@@ -1,0 +1,17 @@
+//! The stack machine: its instructions, its state, the table of what each instruction does, and which code may be run, as
+//! definitions with their laws; and code as it is held in memory. No code of it runs by itself.
+#![tactic(auto)]
+
+mod code;
+mod heads;
+mod instructions;
+mod laws;
+
+pub use code::{Code, ProgramTables};
+pub use heads::{
+    CodedName, ComparedCall, Formal, FormalType, ProcedureHead, Reading, Stars, TextHead,
+};
+pub use instructions::{Coded, Constant, Instr, Mode, Purpose, Source, UnaryOp};
+pub use laws::{
+    code_is_made, numbers_are_told, outcomes_are_one, outcomes_stay, rows_are_not_stuck,
+};
