@@ -1,0 +1,4 @@
+pub mod CellLines
+pub mod Counting
+pub mod Indexing
+pub mod Placing

@@ -1,0 +1,5 @@
+pub mod Arrays
+pub mod Cells
+pub mod Stores
+pub mod Held
+pub mod Placing

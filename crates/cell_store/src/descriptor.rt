@@ -1,0 +1,124 @@
+ghost use Rattle.std.specs.Prelude.{◌≡◌, ◌≤◌, ◌<◌, ◌+◌, ℕ, List, length, map, min};
+ghost use Rattle.cell_store.specs.Arrays.{dimension, elements, extent, index_of, subarray_of, is_within};
+ghost use Rattle.cell_store.specs.Held.{further};
+
+use crate::dimension::{Dimension, count_elements};
+use crate::items::item_at;
+use std::marker::Model;
+use value_ops::{Fault, SimpleType};
+
+/// The most dimensions of an array.
+const MOST_DIMENSIONS: usize = 8;
+
+/// An array of at most 32,767 elements, or a subarray, of which some subscripts are given. Contracts see its element type,
+/// its dimensions, and the cell of its first element.
+#[derive(Clone, Copy)]
+pub struct Descriptor {
+    kind: SimpleType,
+    /// Its dimensions, and behind them blank ones.
+    dimensions: [Dimension; MOST_DIMENSIONS],
+    /// How many dimensions it has.
+    count: usize,
+    first: u32,
+    /// How many elements it has.
+    total: u32,
+}
+
+impl Model for Descriptor {
+    ghost use Rattle.std.specs.Prelude.{length, take};
+    ghost use Rattle.cell_store.specs.Arrays.{Array, elements};
+
+    ghost Value = { Array };
+
+    ghost use Rattle.cell_store.specs.Held.{Placed, padded};
+    ghost use Rattle.cell_store.specs.Placing.{given_back};
+
+    ghost view = { λ d. record { kind = d.kind; dimensions = take d.count d.dimensions; first = d.first } };
+
+    ghost invariant = { λ d. Placed d.dimensions d.count d.first d.total };
+
+    ghost inverse = { λ a. record {
+      kind = a.kind;
+      dimensions = padded a.dimensions;
+      count = length a.dimensions;
+      first = a.first;
+      total = elements a.dimensions;
+    } };
+
+    ghost inverse_ok = { λ d h. given_back d h };
+}
+
+impl Descriptor {
+    /// An array with these bounds, from 1 to 8 dimensions, whose elements begin at a cell.
+    pub(crate) fn new(kind: SimpleType, bounds: &[(i32, i32)], first: u32) -> Descriptor
+        requires most { length bounds.now ≤ 8 }
+        requires room { first + elements (map dimension bounds.now) ≤ 32768 }
+        ensures { result ≡ record { kind = kind; dimensions = map dimension bounds.now; first = first } }
+    {
+        let mut dimensions = [Dimension::BLANK; MOST_DIMENSIONS];
+        for (k, bound) in bounds.iter().enumerate() {
+            dimensions[k] = Dimension::new(*bound);
+        }
+        Descriptor {
+            kind,
+            dimensions,
+            count: bounds.len(),
+            first,
+            total: count_elements(bounds),
+        }
+    }
+
+    /// The type of its elements.
+    pub fn kind(&self) -> SimpleType
+        ensures { result ≡ self.now.kind }
+    {
+        self.kind
+    }
+
+    /// Its dimensions, with the subscripts that are given.
+    pub fn dimensions(&self) -> &[Dimension]
+        ensures value { result.now ≡ self.now.dimensions }
+        ensures most { length self.now.dimensions ≤ 8 }
+    {
+        &self.dimensions[..self.count]
+    }
+
+    /// The cell of an element, by the subscripts that aren't given; none where the array has no such element. F3 exactly
+    /// where a subscript is outside its bounds.
+    pub fn index(&self, subscripts: &[i32]) -> Result<Option<u32>, Fault>
+        ensures { result ≡ index_of self.now subscripts.now }
+    {
+        let mut offset = 0;
+        let mut next = 0;
+        for dimension in self.dimensions() {
+            let subscript = dimension.given.or(item_at(subscripts, next));
+            next += usize::from(dimension.given.is_none());
+            let Some(further) = dimension.further(subscript, offset) else {
+                return Err(Fault::SubscriptOutsideBounds);
+            };
+            offset = further;
+        }
+        Ok((offset < self.total).then_some(self.first + offset))
+    }
+
+    /// The subarray of which these subscripts are given, where they are, of those that weren't. F3 exactly where one is
+    /// outside its bounds.
+    pub fn subarray(&self, subscripts: &[Option<i32>]) -> Result<Descriptor, Fault>
+        ensures { result ≡ subarray_of self.now subscripts.now }
+    {
+        let mut dimensions = [Dimension::BLANK; MOST_DIMENSIONS];
+        let mut next = 0;
+        for (k, dimension) in self.dimensions().iter().enumerate() {
+            let subscript = dimension.given.or(item_at(subscripts, next).flatten());
+            next += usize::from(dimension.given.is_none());
+            if !dimension.is_within(subscript) {
+                return Err(Fault::SubscriptOutsideBounds);
+            }
+            dimensions[k] = dimension.with(subscript);
+        }
+        Ok(Descriptor {
+            dimensions,
+            ..*self
+        })
+    }
+}

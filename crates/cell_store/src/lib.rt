@@ -1,0 +1,18 @@
+//! What a run holds, in room that is taken once: cells, what is in scope, and texts under way.
+#![tactic(auto)]
+
+mod cells;
+mod descriptor;
+mod dimension;
+mod entries;
+mod items;
+mod shelf;
+mod store;
+#[cfg(test)]
+mod tests;
+
+pub use cells::{Closed, Part, Procedure, Variable, Wide, Word};
+pub use descriptor::Descriptor;
+pub use dimension::Dimension;
+pub use entries::{Entry, Frame, Mark, Purpose, Refusal};
+pub use store::Store;

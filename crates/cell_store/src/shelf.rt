@@ -1,0 +1,160 @@
+ghost use Rattle.std.specs.Prelude.{◌≡◌, ◌+◌, ◌≤◌, ◌<◌, [], ◌∷◌, ◌++◌, length, take, replicate, max, IfOk, OnErr, OnOk, option_copied, slice_get, slice_set};
+ghost use Rattle.std.specs.Option.{option_and_then};
+ghost use Rattle.cell_store.specs.Cells.{a_word, a_wide, word_in, wide_in, nothing};
+
+use crate::cells::{Slot, Wide, Word};
+use crate::items::{item_at, ref_at};
+use std::alloc::{AllocError, Global};
+use std::marker::Model;
+
+/// Cells in line. Contracts see what each holds, and how many there is room for. No call but `new` and `make_room` takes
+/// memory.
+#[derive(Drop)]
+pub(crate) struct Shelf {
+    slots: Vec<Slot>,
+    /// What is too wide for its slot, at the number of its cell.
+    beside: Vec<Wide>,
+    room: u32,
+}
+
+impl Model for Shelf {
+    ghost use Rattle.std.specs.Prelude.{length, vec_capacity};
+    ghost use Rattle.cell_store.specs.Cells.{Shelf as ShelfView};
+
+    ghost Value = { ShelfView };
+
+    ghost use Rattle.cell_store.specs.Held.{cells, Shelved};
+
+    ghost view = { λ s. record { cells = cells s.slots.items s.beside.items; room = s.room } };
+
+    ghost invariant = { λ s. Shelved (length s.slots.items) s.room (vec_capacity s.slots) (length s.beside.items) };
+}
+
+impl Shelf {
+    /// No cells, and room for none.
+    pub fn new(alloc: Global) -> Shelf
+        ensures { result ≡ record { cells = []; room = 0 } }
+    {
+        Shelf {
+            slots: Vec::new(alloc),
+            beside: Vec::new(alloc),
+            room: 0,
+        }
+    }
+
+    /// Makes room for as many cells, where there isn't more.
+    #[tactic(auto, using(crate::proofs::CellLines::length_cells, crate::proofs::CellLines::cells_widened))]
+    pub fn make_room(&mut self, room: u32) -> Result<(), AllocError>
+        ensures made { OnOk result (self.new ≡ record self.old { room = max self.old.room room }) }
+        ensures unchanged { OnErr result (self.new ≡ self.old) }
+    {
+        if room <= self.room {
+            return Ok(());
+        }
+        let beside = self.beside.len().max(room as usize);
+        self.beside.resize(beside, Wide::BLANK)?;
+        self.slots.reserve_exact(room as usize - self.slots.len())?;
+        self.room = room;
+        Ok(())
+    }
+
+    /// How many cells there are.
+    #[inline(always)]
+    #[tactic(auto, using(crate::proofs::CellLines::length_cells))]
+    pub fn len(&self) -> u32
+        ensures count { result ≡ length self.now.cells }
+        ensures within { result ≤ self.now.room }
+    {
+        self.slots.len() as u32
+    }
+
+    /// For how many there is room.
+    #[inline(always)]
+    pub fn room(&self) -> u32
+        ensures { result ≡ self.now.room }
+    {
+        self.room
+    }
+
+    /// What a cell holds, where that is a word.
+    #[inline(always)]
+    #[tactic(auto, using(crate::proofs::CellLines::word_at))]
+    pub fn word(&self, at: u32) -> Option<Word>
+        ensures { result ≡ option_and_then word_in (slice_get self.now.cells at) }
+    {
+        item_at(&self.slots, at as usize)?.word()
+    }
+
+    /// What a cell holds, where that is wide.
+    #[inline(always)]
+    #[tactic(auto, using(crate::proofs::CellLines::wide_at))]
+    pub fn wide(&self, at: u32) -> Option<&Wide>
+        ensures { option_copied result ≡ option_and_then wide_in (slice_get self.now.cells at) }
+    {
+        if item_at(&self.slots, at as usize)?.is_beside() {
+            ref_at(&self.beside, at as usize)
+        } else {
+            None
+        }
+    }
+
+    /// A cell more, which holds this.
+    #[inline(always)]
+    #[tactic(auto, using(crate::proofs::CellLines::length_cells, crate::proofs::CellLines::cells_push))]
+    pub fn push(&mut self, held: Word)
+        requires { length self.old.cells < self.old.room }
+        ensures { self.new ≡ record self.old { cells = self.old.cells ++ a_word held ∷ [] } }
+    {
+        self.slots.push_reserved(Slot::of(held));
+    }
+
+    /// A cell more, which holds this.
+    #[tactic(auto, using(crate::proofs::CellLines::length_cells, crate::proofs::CellLines::cells_push_wide, crate::proofs::CellLines::length_set_beside))]
+    pub fn push_wide(&mut self, held: &Wide)
+        requires { length self.old.cells < self.old.room }
+        ensures { self.new ≡ record self.old { cells = self.old.cells ++ a_wide held.now ∷ [] } }
+    {
+        let at = self.slots.len();
+        self.beside[at] = *held;
+        self.slots.push_reserved(Slot::Beside);
+    }
+
+    /// So many cells more, which hold nothing.
+    pub fn push_empty(&mut self, count: u32)
+        requires { length self.old.cells + count ≤ self.old.room }
+        ensures { self.new ≡ record self.old { cells = self.old.cells ++ replicate count nothing } }
+    {
+        for _ in 0..count {
+            self.push(Word::Nothing);
+        }
+    }
+
+    /// The cell of this number holds this from now on.
+    #[inline(always)]
+    #[tactic(auto, using(crate::proofs::CellLines::length_cells, crate::proofs::CellLines::cells_set))]
+    pub fn set(&mut self, at: u32, held: Word)
+        requires { at < length self.old.cells }
+        ensures { self.new ≡ record self.old { cells = slice_set self.old.cells at (a_word held) } }
+    {
+        self.slots[at as usize] = Slot::of(held);
+    }
+
+    /// The cell of this number holds this from now on.
+    #[tactic(auto, using(crate::proofs::CellLines::length_cells, crate::proofs::CellLines::cells_set_wide))]
+    pub fn set_wide(&mut self, at: u32, held: &Wide)
+        requires { at < length self.old.cells }
+        ensures { self.new ≡ record self.old { cells = slice_set self.old.cells at (a_wide held.now) } }
+    {
+        self.beside[at as usize] = *held;
+        self.slots[at as usize] = Slot::Beside;
+    }
+
+    /// Gives back all cells but the first so many.
+    #[inline(always)]
+    #[tactic(auto, using(crate::proofs::CellLines::length_cells, crate::proofs::CellLines::cells_take))]
+    pub fn cut(&mut self, kept: u32)
+        ensures { self.new ≡ record self.old { cells = take kept self.old.cells } }
+    {
+        self.slots.truncate(kept as usize);
+    }
+}

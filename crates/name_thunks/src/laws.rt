@@ -1,0 +1,7 @@
+ghost use Rattle.name_thunks.specs.Thunks.{LeavingGivesBack};
+
+/// A copied actual that is entered and left gives back what was there before: cells, entries, texts under way with their
+/// links and answers, the text that runs, and the depth.
+pub fn leaving_gives_back()
+    ensures { LeavingGivesBack }
+{}

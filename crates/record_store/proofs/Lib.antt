@@ -1,0 +1,4 @@
+mod Values
+mod FieldsInLine
+mod RecordsInLine
+pub mod Calls

@@ -1,0 +1,104 @@
+ghost use Rattle.std.specs.Prelude.{◌≡◌, ◌≤◌, ◌<◌, ◌+◌, ◌++◌, None, Some, IfOk, length, replicate, take, drop, slice_index_or, slice_set};
+
+use std::alloc::{AllocError, Global};
+use std::marker::Model;
+use std::mem::size_of;
+use value_ops::{RecordId, Text, Value};
+
+/// What a field holds, but for the characters of a string, which stand beside it.
+#[derive(Clone, Copy)]
+pub(crate) enum Slot {
+    /// Nothing: it was never set.
+    Undefined,
+    /// An INTEGER.
+    Integer(i32),
+    /// A LOGICAL.
+    Logical(bool),
+    /// 32 BITS, as a number.
+    Bits(u32),
+    /// A STRING.
+    Str,
+    /// A record, or NULL.
+    Reference(Option<RecordId>),
+}
+
+const _: () = prove!(size_of::<Slot>() == 8);
+
+/// Fields in line. A slot takes 8 bytes, so that what isn't a string is read and set in one small piece.
+#[derive(Drop)]
+pub(crate) struct Fields {
+    slots: Vec<Slot>,
+    /// The characters of the field at the same place, where it holds a string.
+    texts: Vec<Text>,
+}
+
+impl Model for Fields {
+    ghost use Rattle.std.specs.Prelude.{◌≡◌, List, Option, length};
+    ghost use Rattle.value_ops.specs.declared.values.Value.{Value as Held};
+    ghost use Rattle.record_store.specs.Slots.{values_of};
+
+    ghost Value = { List (Option Held) };
+
+    ghost view = { λ f. values_of f.slots.items f.texts.items };
+
+    ghost invariant = { λ f. length f.slots.items ≡ length f.texts.items };
+}
+
+impl Fields {
+    /// So many fields, which are undefined.
+    pub(crate) fn new(alloc: Global, count: usize) -> Result<Fields, AllocError>
+        ensures { IfOk result (λ fields. fields ≡ replicate count None) }
+    {
+        Ok(Fields {
+            slots: vec![in alloc; Slot::Undefined; count]?,
+            texts: vec![in alloc; Text::new(); count]?,
+        })
+    }
+
+    /// What the field at a place holds.
+    #[inline]
+    #[tactic(auto, using(crate::proofs::Values::within_both))]
+    pub(crate) fn at(&self, place: usize) -> Option<Value>
+        requires { place < length self.now }
+        ensures { result ≡ slice_index_or self.now place None }
+    {
+        match self.slots[place] {
+            Slot::Undefined => None,
+            Slot::Integer(number) => Some(Value::Integer(number)),
+            Slot::Logical(truth) => Some(Value::Logical(truth)),
+            Slot::Bits(bits) => Some(Value::Bits(bits)),
+            Slot::Str => Some(Value::Str(self.texts[place])),
+            Slot::Reference(record) => Some(Value::Reference(record)),
+        }
+    }
+
+    /// Sets the field at a place.
+    #[inline]
+    #[tactic(auto, using(crate::proofs::Values::within_both))]
+    pub(crate) fn set(&mut self, place: usize, value: Value)
+        requires { place < length self.old }
+        ensures { self.new ≡ slice_set self.old place (Some value) }
+    {
+        let slot = match value {
+            Value::Integer(number) => Slot::Integer(number),
+            Value::Logical(truth) => Slot::Logical(truth),
+            Value::Bits(bits) => Slot::Bits(bits),
+            Value::Str(text) => {
+                self.texts[place] = text;
+                Slot::Str
+            }
+            Value::Reference(record) => Slot::Reference(record),
+        };
+        self.slots[place] = slot;
+    }
+
+    /// Makes so many fields from a place on undefined.
+    #[tactic(auto, using(crate::proofs::Values::length_values_of))]
+    pub(crate) fn undefine(&mut self, first: usize, count: usize)
+        requires { first + count ≤ length self.old }
+        ensures { self.new ≡ take first self.old ++ replicate count None
+            ++ drop (first + count) self.old }
+    {
+        self.slots[first..first + count].fill(Slot::Undefined);
+    }
+}
