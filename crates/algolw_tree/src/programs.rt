@@ -12,6 +12,8 @@ pub struct Program {
     pub names: Vec<NameInfo>,
     /// The record classes, in order of place, and the sets of them that references are to.
     pub classes: ClassTable,
+    /// The number of the name of each record class.
+    pub class_names: Vec<u32>,
     /// The place of the first token of each statement, in order. A statement goes by its number here.
     pub statements: Vec<Place>,
 }

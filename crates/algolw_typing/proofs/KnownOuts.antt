@@ -1,5 +1,5 @@
 -- A phrase whose parts are known is known.
-use Rattle.std.proofs.Common.{◌≡◌, ℕ, List, [], ◌∷◌, ◌++◌, Option, Some, None, Bool, true}
+use Rattle.std.proofs.Common.{◌≡◌, ℕ, List, [], ◌∷◌, ◌++◌, Option, Some, None, Bool, true, false}
 use Rattle.value_ops.specs.declared.places.Place.{Place}
 use Rattle.value_ops.specs.declared.places.Diagnostic.{Diagnostic}
 use Rattle.algolw_tree.specs.declared.phrases.Op.{Op}
@@ -19,7 +19,7 @@ use Rattle.algolw_typing.specs.Known.{KnowsType, KnowsGives, Knows, KnowsKind, K
 use Rattle.algolw_typing.proofs.GoodScopes.{NoFaults, none_first, none_two, none_three, none_four}
 use Rattle.algolw_typing.proofs.KnownTypes.{Tells, a_type, a_fault, silence, a_statement, gives_told, part_told, all_parts_told, onward_told, if_told, case_do_told, for_told, while_told, assert_told, link_told, integer_told, relation_told, is_told, assign_told, AllGive, none_gives, gives_and, negated_told, if_else_told, case_value_told}
 use Rattle.algolw_typing.proofs.KnownNames.{FoundIs}
-use Rattle.algolw_typing.proofs.KnownScopes.{IsHad, classes_both}
+use Rattle.algolw_typing.proofs.KnownScopes.{IsHad, ClassHad, ClassKnown, classes_both}
 
 -- ---- what is shown of a phrase with its naming
 
@@ -95,11 +95,22 @@ class_target : (names : List Place) (x : Placed) (e : Option (Entry Known)) → 
 class_target names x None k h = absurd h
 class_target names x (Some e) k h = k
 
-pub is_fine : {names classes : List Place} (p f : Place) (x : Placed) (e : Option (Entry Known)) (a : Out) (m : Naming) (found : Option Place) → FoundIs (IsHad names) e → Fine names classes a m → Fine names classes (is_out p f x e a) (and m (used_at x.1 found))
-is_fine {names = names} p f x e a m found k i =
-    made (faults a ++ class_fault x e) p f (class_stated (class_fault x e) (meaning_of e) (part (gives a) (is_row p))) (typed.IsClass a.node (target e) x.1) (and m (used_at x.1 found))
+is_stated : (classes : List Place) (x : Placed) (b : Bool) (p : Place) → ClassHad classes b p → NoFaults (elim b [ true ↦ [] | false ↦ record { place = x.1; number = 33 } ∷ [] ]) → has classes p ≡ true
+is_stated classes x true p k h = k
+is_stated classes x false p k h = absurd h
+
+target_class : (classes : List Place) (x : Placed) (e : Option (Entry Known)) → FoundIs (ClassKnown classes) e → NoFaults (class_fault x e) → has classes (target e) ≡ true
+target_class classes x None k h = absurd h
+target_class classes x (Some e) k h = is_stated classes x e.is.is_class e.place k h
+
+pub is_fine : {names classes : List Place} (p f : Place) (x : Placed) (e : Option (Entry Known)) (a : Out) (m : Naming) (found : Option Place) → FoundIs (IsHad names) e → FoundIs (ClassKnown classes) e → Fine names classes a m → Fine names classes (is_out p f x e a) (and m (used_at x.1 found))
+is_fine {names = names} {classes = classes} p f x e a m found k w i =
+    made {names = names} {classes = classes} (faults a ++ class_fault x e) p f (class_stated (class_fault x e) (meaning_of e) (part (gives a) (is_row p))) (typed.IsClass a.node (target e) x.1) (and m (used_at x.1 found))
     (stated_told (class_fault x e) (meaning_of e) (part (gives a) (is_row p)) (part_told (gives a) (is_row p) (is_told p)))
-    (λ h. let none = none_two (faults a) (class_fault x e) h in both m (used_at x.1 found) (i.sound none.0) (record { tree = class_target names x e k none.1; fields = tt }))
+    (λ h.
+    let none = none_two (faults a) (class_fault x e) h in
+    let s = i.sound none.0 in
+    record { tree = (s.tree, class_target names x e k none.1, target_class classes x e w none.1); fields = fields_both classes m (used_at x.1 found) s.fields tt })
 
 goto_case : {classes : List Place} (p : Place) (name : List ℕ) (place : Place) (c : Bool) (reading : Reading) (m : Option Meaning) → Tells classes (goto_row p (Some (record { name = name; place = place; is = record { is_class = c; reading = reading; means = m } })))
 goto_case p name place c reading None = silence

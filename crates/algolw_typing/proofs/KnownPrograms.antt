@@ -16,6 +16,7 @@ use Rattle.algolw_typing.proofs.WholeTrees.{none_in_order}
 use Rattle.algolw_typing.proofs.KnownScopes.{EachHad, Within, within_first, within_second, infos_places}
 use Rattle.algolw_typing.proofs.KnownBlocks.{around_standard}
 use Rattle.algolw_typing.proofs.KnownOuts.{Sound}
+use Rattle.algolw_typing.proofs.NamedClasses.{classes_are_names}
 use Rattle.algolw_typing.proofs.KnownTrees.{phrase_known}
 
 -- ---- what is put in order of place is still there
@@ -96,4 +97,5 @@ pub nothing_is_unknown : NothingUnknown
 nothing_is_unknown = record {
   tree = λ x e. (program_known x e).tree;
   fields = λ x e. classes_in_order (class_places (program_of x)) (program_naming x).classes (program_known x e).fields;
+  classes = classes_are_names;
 }

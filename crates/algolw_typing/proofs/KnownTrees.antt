@@ -64,7 +64,7 @@ mutual
       relation_fine p f op (typed_phrase path a) (typed_phrase path b) l m (phrase_known frame outer path w a (within_first l m n)) (phrase_known frame outer path w b (within_second l m n))
   kind_known frame outer path w p f (tree.IsClass a x q) n =
       let l = naming frame outer a in
-      is_fine p f (x, q) (declared path x) (typed_phrase path a) l (place_of (declared outer x)) (w.had x) (phrase_known frame outer path w a (within_first l (use_at outer x q) n))
+      is_fine p f (x, q) (declared path x) (typed_phrase path a) l (place_of (declared outer x)) (w.had x) (w.class x) (phrase_known frame outer path w a (within_first l (use_at outer x q) n))
   kind_known frame outer path w p f (tree.Assign a b) n =
       let l = naming frame outer a in
       let m = naming frame outer b in

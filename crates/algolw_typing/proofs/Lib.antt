@@ -17,4 +17,5 @@ mod KnownOuts
 mod KnownParts
 mod KnownDecls
 mod KnownTrees
+mod NamedClasses
 pub mod KnownPrograms

@@ -1,6 +1,8 @@
 -- That a typed tree has no names and no record classes but those of two lists, each by the place of its declaration.
 use Rattle.std.specs.Prelude.{◌≡◌, ⊤, ℕ, List, [], ◌∷◌, map, Option, Some, None, true}
+use Rattle.std.specs.List.{All, Any}
 use Rattle.value_ops.specs.declared.places.Place.{Place}
+use Rattle.algolw_tree.specs.declared.programs.NameInfo.{NameInfo}
 use Rattle.algolw_tree.specs.Tree.{Phrase}
 use Rattle.algolw_typing.specs.Types.{ValueType, Reference, Gives, Simple, has}
 use Rattle.algolw_typing.specs.Typed as typed
@@ -40,7 +42,7 @@ abbrev pub KnowsGroups : (names classes : List Place) → List typed.Group → T
 KnowsGroups names classes [] = ⊤
 KnowsGroups names classes (g ∷ groups) = KnowsType classes g.type × KnowsDeclared names g.names × KnowsGroups names classes groups
 
--- ---- trees: each name and each class of a type is had
+-- ---- trees: each name and each class, of a type or behind IS, is had
 
 abbrev mutual
   pub Knows : (names classes : List Place) → typed.Node → Type 0
@@ -53,7 +55,7 @@ abbrev mutual
   KnowsKind names classes (typed.Signed minus a) = Knows names classes a
   KnowsKind names classes (typed.Chain a links) = Knows names classes a × KnowsLinks names classes links
   KnowsKind names classes (typed.Relation op a b) = Knows names classes a × Knows names classes b
-  KnowsKind names classes (typed.IsClass a d q) = Knows names classes a × (has names d ≡ true)
+  KnowsKind names classes (typed.IsClass a d q) = Knows names classes a × (has names d ≡ true) × (has classes d ≡ true)
   KnowsKind names classes (typed.Assign a b) = Knows names classes a × Knows names classes b
   KnowsKind names classes (typed.IfThen c a b) = Knows names classes c × Knows names classes a × KnowsPerhaps names classes b
   KnowsKind names classes (typed.CaseValue c values) = Knows names classes c × KnowsNodes names classes values
@@ -124,7 +126,12 @@ name_places program = map (λ i. i.place) program.names
 abbrev pub class_places : TypedProgram → List Place
 class_places program = map (λ c. c.place) program.classes
 
--- In a program without faults each name is one that the program declares, and each class of a type is one of its record classes.
+-- one of these names is the record class's
+abbrev pub IsNamed : List NameInfo → Class → Type 0
+IsNamed names c = Any (λ (i : NameInfo). (i.place ≡ c.place) × (i.name ≡ c.name)) names
+
+-- In a program without faults each name is one that the program declares, and each class of a type is one of its record classes, which are names.
 pub record NothingUnknown : Type 0 where
   pub tree : (x : Phrase) → program_faults x ≡ [] → Knows (name_places (program_of x)) (class_places (program_of x)) (program_of x).root
   pub fields : (x : Phrase) → program_faults x ≡ [] → ClassesKnow (class_places (program_of x)) (program_of x).classes
+  pub classes : (x : Phrase) → All (IsNamed (program_of x).names) (program_of x).classes

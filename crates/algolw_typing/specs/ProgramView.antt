@@ -1,5 +1,6 @@
 -- The typed tree, the names, the record classes and the statements that a program in memory is.
-use Rattle.std.specs.Prelude.{◌≡◌, ℕ, [], ◌∷◌, map, Option, slice_index_or}
+use Rattle.std.specs.Prelude.{◌≡◌, ◌<◌, ℕ, [], ◌∷◌, map, Option, slice_index_or}
+use Rattle.std.specs.List.{All}
 use Rattle.std.specs.Prelude as std
 use Rattle.std.specs.Option.{option_map}
 use Rattle.value_ops.specs.declared.places.Place.{Place}
@@ -159,9 +160,11 @@ abbrev pub class_in_table : Numbers → classes.Class → std.List ℕ × std.Li
 class_in_table ns c = (c.name, map (λ f. (f.0, type_view ns f.1)) c.fields)
 
 -- A program in memory is what a phrase without faults is: a name goes by its number among the names, a class by its number among the classes,
--- a statement by its number among the statements, each in order of place.
+-- a statement by its number among the statements, each in order of place. It has the number of each class's name, and sets have no other classes.
 pub record HoldsProgram (p : Program) (x : TypedProgram) : Type 0 where
   pub names : p.names.items ≡ x.names
   pub statements : p.statements.items ≡ x.statements
   pub classes : map (class_in_table (numbers_of p x)) p.classes.classes ≡ map (λ (c : ClassInfo). (c.name, c.fields)) x.classes
+  pub class_names : map (numbered (map (λ i. i.place) x.names)) p.class_names.items ≡ map (λ (c : ClassInfo). c.place) x.classes
+  pub members : All (All (λ (c : ClassId). c.0 < std.length x.classes)) p.classes.sets
   pub root : node_view (numbers_of p x) p.root ≡ x.root

@@ -30,7 +30,7 @@ pub fn nothing_forgotten()
 {}
 
 /// In a program without faults each name of the typed tree is one that the program declares, and each class of a type,
-/// there and in a record class, is one of its record classes.
+/// there and in a record class, is one of its record classes, each of which is one of its names.
 pub fn nothing_unknown()
     ensures { NothingUnknown }
 {}

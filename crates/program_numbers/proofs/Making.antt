@@ -15,14 +15,14 @@ follows_on a b c f g = record { more = f.more ++ g.more; is = g.is ∙ ap (λ se
 
 -- nothing is added
 pub makes : {A : Type 0} (n : Numbering) (a : Classes) (view : Numbers → A) (x : A) → ((sets : Sets) → view (numbers_in n sets) ≡ x) → Makes n a a view x
-makes n a view x h = record { classes = refl; follows = follows_itself a.sets; rise = λ r. r; means = λ later f r. h later }
+makes n a view x h = record { classes = refl; follows = follows_itself a.sets; sets = λ r. r; means = λ later f r. h later }
 
 -- two parts, one behind the other
 pub makes_both : {A B : Type 0} (n : Numbering) (a b c : Classes) (v : Numbers → A) (w : Numbers → B) (x : A) (y : B) → Makes n a b v x → Makes n b c w y → Makes {A = A × B} n a c (λ ns. (v ns, w ns)) (x, y)
 makes_both {A} {B} n a b c v w x y f g = record {
   classes = g.classes ∙ f.classes;
   follows = follows_on a.sets b.sets c.sets f.follows g.follows;
-  rise = λ r. g.rise (f.rise r);
+  sets = λ r. g.sets (f.sets r);
   means = λ later h r. ap {B = A × B} (λ z. (z, w (numbers_in n later))) (f.means later (follows_on b.sets c.sets later g.follows h) r) ∙ ap {B = A × B} (λ z. (x, z)) (g.means later h r);
 }
 
@@ -31,7 +31,7 @@ pub makes_of : {A B : Type 0} (n : Numbering) (a b : Classes) (v : Numbers → A
 makes_of n a b v x F w y h e m = record {
   classes = m.classes;
   follows = m.follows;
-  rise = m.rise;
+  sets = m.sets;
   means = λ later f r. h later ∙ ap F (m.means later f r) ∙ sym e;
 }
 

@@ -1,5 +1,5 @@
 -- The positions of places, as they are put into a map.
-use Rattle.std.proofs.Common.{◌≡◌, ℕ, ◌+◌, ◌<◌, Bool, true, false, cond, ◌||◌, List, [], ◌∷◌, ◌++◌, Option, Some, take, length, get_or, refl, sym, ap, ◌∙◌, arith}
+use Rattle.std.proofs.Common.{◌≡◌, ℕ, ◌+◌, ◌<◌, Bool, true, false, cond, ◌||◌, List, [], ◌∷◌, ◌++◌, Option, Some, take, length, get_or, refl, sym, ap, subst, ◌∙◌, arith}
 use Rattle.std.proofs.lemmas.Bool.Decides.{nat_tests}
 use Rattle.std.proofs.lemmas.List.{take_more, get_or_default}
 use Rattle.std.proofs.lemmas.Option.{same_Some}
@@ -56,17 +56,23 @@ all-put places i place number old new q within item there is h =
 pub numbered_item : (places : List Place) (i : ℕ) (place : Place) → i < length places → place ≡ get_or places i place → numbered places i ≡ place
 numbered_item places i place h e = get_or_default places i nowhere place h ∙ sym e
 
+within_by : (b : Bool) (places : List Place) (number n : ℕ) (held : Option ℕ) → number < length places → (held ≡ Some n → n < length places) → cond b (Some number) held ≡ Some n → n < length places
+within_by true places number n held here there e = subst (λ m. m < length places) (same_Some _ _ e) here
+within_by false places number n held here there e = there e
+
 -- the positions of the places before a position
 pub record PositionsBefore (places : List Place) (i : ℕ) (numbers : BTreeMap Place ℕ) : Type 0 where
   pub at : (p : Place) (n : ℕ) → get place_cmp numbers p ≡ Some n → numbered places n ≡ p
+  pub within : (p : Place) (n : ℕ) → get place_cmp numbers p ≡ Some n → n < length places
   pub all : (p : Place) → has (take i places) p ≡ true → is_some (get place_cmp numbers p) ≡ true
 
 pub one_position : (places : List Place) (i : ℕ) (d : Place) (number : ℕ) (old new : BTreeMap Place ℕ) → i < length places → number ≡ i → PositionsBefore places i old
     → ((q : Place) → get place_cmp new q ≡ cond (is_at (place_cmp (get_or places i d)) q) (Some number) (get place_cmp old q)) → PositionsBefore places (i + 1) new
-one_position places i d number old new within is before held =
+one_position places i d number old new within same before held =
     let place = get_or places i d in
     let item : place ≡ get_or places i place = get_or_default places i d place within in
     record {
-      at = λ q n. at-put places place number old new q n (ap (numbered places) is ∙ numbered_item places i place within item) before.at (held q);
+      at = λ q n. at-put places place number old new q n (ap (numbered places) same ∙ numbered_item places i place within item) before.at (held q);
+      within = λ q n e. within_by (is_at (place_cmp place) q) places number n (get place_cmp old q) (subst (λ m. m < length places) (sym same) within) (before.within q n) (sym (held q) ∙ e);
       all = λ q. all-put places i place number old new q within item before.all (held q);
     }

@@ -3,6 +3,7 @@ use Rattle.std.proofs.Common.{◌≡◌, ◌==◌, ℕ, suc, ◌+◌, ◌<◌, �
 use Rattle.std.proofs.lemmas.Bool.{eqb-true, and_parts, or_cases, or_left, or_right}
 use Rattle.std.proofs.lemmas.Bool.Decides.{nat_tests}
 use Rattle.std.proofs.lemmas.List.{get_or_append_left, get_or_push, get_or-map, length_push}
+use Rattle.std.proofs.lemmas.List.Elements.{All-push}
 use Rattle.std.specs.Result.{IfOk, OnOk}
 use Rattle.value_ops.specs.declared.places.Place.{Place}
 use Rattle.value_ops.specs.declared.values.ClassId.{ClassId}
@@ -13,7 +14,7 @@ use Rattle.algolw_typing.specs.ProgramView.{numbered, nowhere_set, set_view}
 use Rattle.algolw_typing.specs.Types.{has, is_place}
 use Rattle.typing_rules.specs.ClassSets.{Rising}
 use Rattle.typing_rules.proofs.Unions.{one_list}
-use Rattle.program_numbers.specs.Makes.{Sets, Follows, AllRise, Makes, numbers_in, places_in}
+use Rattle.program_numbers.specs.Makes.{Sets, Follows, HasMembers, AreSets, Makes, numbers_in, places_in}
 use Rattle.program_numbers.specs.declared.numbering.Numbering.{Numbering}
 use Rattle.program_numbers.proofs.Making.{follows_itself}
 use Rattle.typing_rules.proofs.Sets.{same_place, place_itself}
@@ -69,61 +70,55 @@ seen_alike g a b same r s =
 
 -- the set at a number, seen in any later table
 pub seen_later : (n : Numbering) (sets later : Sets) (s : ℕ) (places : List Place) → s < length sets → (Rising (places_in n.classes (get_or sets s [])) → places_in n.classes (get_or sets s []) ≡ places)
-    → Follows sets later → AllRise n.classes later → set_view (numbers_in n later) s ≡ places
+    → Follows sets later → AreSets n.classes later → set_view (numbers_in n later) s ≡ places
 seen_later n sets later s places within is f r =
     let inside : s < length later = omega (arith, ap length f.is, length-append sets f.more) in
     let held : get_or later s [] ≡ get_or sets s [] = ap (λ xs. get_or xs s []) f.is ∙ get_or_append_left sets f.more [] s within in
     get_or-map (places_in n.classes) later s [] nowhere_set inside
     ∙ ap (places_in n.classes) held
-    ∙ is (subst (λ set. Rising (places_in n.classes set)) held (r.each s [] inside))
+    ∙ is (subst (λ set. Rising (places_in n.classes set)) held (r.rise s [] inside))
 
-rise_more : (classes : List Place) (sets : Sets) (a : List ClassId) → Rising (places_in classes a) → AllRise classes sets → AllRise classes (sets ++ a ∷ [])
-rise_more classes sets a rising r = record { each = λ i d h. by (nat_lt i (length sets)) i d h refl }
-  where
-    by : (there : Bool) (i : ℕ) (d : List ClassId) → i < length (sets ++ a ∷ []) → nat_lt i (length sets) ≡ there → Rising (places_in classes (get_or (sets ++ a ∷ []) i d))
-    by true i d h e =
-        let within : i < length sets = grind (arith, nat_tests) in
-        subst (λ set. Rising (places_in classes set)) (sym (get_or_append_left sets (a ∷ []) d i within)) (r.each i d within)
-    by false i d h e =
-        let past : length sets ≤ i = grind (arith, nat_tests) in
-        let last : length sets ≡ i = omega (arith, length_push sets a) in
-        subst (λ set. Rising (places_in classes set)) (sym (get_or_push sets a d i last)) rising
+sets_more : (classes : List Place) (sets : Sets) (a : List ClassId) → Rising (places_in classes a) → HasMembers classes a → AreSets classes sets → AreSets classes (sets ++ a ∷ [])
+sets_more classes sets a rising members r = record {
+  rise = All-push (λ (set : List ClassId). Rising (places_in classes set)) sets a r.rise rising;
+  members = All-push (HasMembers classes) sets a r.members members;
+}
 
-made_by : (there : Bool) (n : Numbering) (t : Classes) (a : List ClassId) (s : ℕ) (places : List Place) → nat_lt (number_of t.sets a) (length t.sets) ≡ there → s ≡ number_of t.sets a → places_in n.classes a ≡ places → Rising places
+made_by : (there : Bool) (n : Numbering) (t : Classes) (a : List ClassId) (s : ℕ) (places : List Place) → nat_lt (number_of t.sets a) (length t.sets) ≡ there → s ≡ number_of t.sets a → places_in n.classes a ≡ places → HasMembers n.classes a → Rising places
     → Makes n t (cond there t (record t { sets = t.sets ++ a ∷ [] })) (λ ns. set_view ns s) places
-made_by true n t a s places there e is rising =
+made_by true n t a s places there e is members rising =
     let found : number_of t.sets a < length t.sets = grind (arith, nat_tests) in
     let same : is_same_set (get_or t.sets s []) a ≡ true = ap (λ m. is_same_set (get_or t.sets m []) a) e ∙ at_number t.sets a found in
     record {
       classes = refl;
       follows = follows_itself t.sets;
-      rise = λ r. r;
+      sets = λ r. r;
       means = λ later f r. seen_later n t.sets later s places (omega (arith, e, found)) (λ up. seen_alike (λ c. numbered n.classes c.0) (get_or t.sets s []) a same up (subst Rising (sym is) rising) ∙ is) f r;
     }
-made_by false n t a s places there e is rising =
+made_by false n t a s places there e is members rising =
     let past : length t.sets ≤ number_of t.sets a = grind (arith, nat_tests) in
     let last : length t.sets ≡ s = omega (arith, number_of-le t.sets a) in
     record {
       classes = refl;
       follows = record { more = a ∷ []; is = refl };
-      rise = rise_more n.classes t.sets a (subst Rising (sym is) rising);
+      sets = sets_more n.classes t.sets a (subst Rising (sym is) rising) members;
       means = λ later f r. seen_later n (t.sets ++ a ∷ []) later s places (omega (arith, last, length_push t.sets a)) (λ up. ap (places_in n.classes) (get_or_push t.sets a [] s last) ∙ is) f r;
     }
 
 -- a set that is added is seen by its number in each later table
-pub set_made : (n : Numbering) (t : Classes) (a : List ClassId) (s : SetId) (places : List Place) → s.0 ≡ number_of t.sets a → places_in n.classes a ≡ places → Rising places → Makes n t (with_set t a) (λ ns. set_view ns s.0) places
-set_made n t a s places e is rising = made_by (nat_lt (number_of t.sets a) (length t.sets)) n t a s.0 places refl e is rising
+pub set_made : (n : Numbering) (t : Classes) (a : List ClassId) (s : SetId) (places : List Place) → s.0 ≡ number_of t.sets a → places_in n.classes a ≡ places → HasMembers n.classes a → Rising places → Makes n t (with_set t a) (λ ns. set_view ns s.0) places
+set_made n t a s places e is members rising = made_by (nat_lt (number_of t.sets a) (length t.sets)) n t a s.0 places refl e is members rising
 
-pub set_answered : {E : Type 0} (n : Numbering) (t u : Classes) (a : List ClassId) (places : List Place) (r : Result SetId E) → IfOk r (λ s. s.0 ≡ number_of t.sets a) → OnOk r (u ≡ with_set t a) → places_in n.classes a ≡ places → Rising places
+pub set_answered : {E : Type 0} (n : Numbering) (t u : Classes) (a : List ClassId) (places : List Place) (r : Result SetId E) → IfOk r (λ s. s.0 ≡ number_of t.sets a) → OnOk r (u ≡ with_set t a) → places_in n.classes a ≡ places → HasMembers n.classes a → Rising places
     → IfOk r (λ s. Makes n t u (λ ns. set_view ns s.0) places)
-set_answered n t u a places (Err e) number added is rising = tt
-set_answered n t u a places (Ok s) number added is rising = subst (λ v. Makes n t v (λ ns. set_view ns s.0) places) (sym added) (set_made n t a s places number is rising)
+set_answered n t u a places (Err e) number added is members rising = tt
+set_answered n t u a places (Ok s) number added is members rising = subst (λ v. Makes n t v (λ ns. set_view ns s.0) places) (sym added) (set_made n t a s places number is members rising)
 
 -- a set that the table has is seen by its number in each later table
 pub set_known : (n : Numbering) (t : Classes) (s : ℕ) (places : List Place) → s < length t.sets → places_in n.classes (get_or t.sets s []) ≡ places → Makes n t t (λ ns. set_view ns s) places
 set_known n t s places within is = record {
   classes = refl;
   follows = follows_itself t.sets;
-  rise = λ r. r;
+  sets = λ r. r;
   means = λ later f r. seen_later n t.sets later s places within (λ up. is) f r;
 }

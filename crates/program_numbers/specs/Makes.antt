@@ -1,5 +1,6 @@
 -- What is made of a typed tree while sets of classes are added to a table.
 use Rattle.std.specs.Prelude.{◌≡◌, ℕ, ◌<◌, ◌++◌, List, length, map, slice_index_or}
+use Rattle.std.specs.List.{All}
 use Rattle.value_ops.specs.declared.places.Place.{Place}
 use Rattle.value_ops.specs.declared.values.ClassId.{ClassId}
 use Rattle.record_classes.specs.Classes.{Classes}
@@ -20,9 +21,14 @@ pub record Follows (sets later : Sets) : Type 0 where
 abbrev pub places_in : List Place → List ClassId → List Place
 places_in classes set = map (λ c. numbered classes c.0) set
 
--- each set is in order of place, with each class once
-pub record AllRise (classes : List Place) (sets : Sets) : Type 0 where
-  pub each : (i : ℕ) (d : List ClassId) → i < length sets → Rising (places_in classes (slice_index_or sets i d))
+-- each member is the number of a class
+abbrev pub HasMembers : List Place → List ClassId → Type 0
+HasMembers classes set = All (λ (c : ClassId). c.0 < length classes) set
+
+-- each set is in order of place, with each class once, and has classes alone
+pub record AreSets (classes : List Place) (sets : Sets) : Type 0 where
+  pub rise : All (λ (set : List ClassId). Rising (places_in classes set)) sets
+  pub members : All (HasMembers classes) sets
 
 -- what numbers stand for, where the sets are these
 abbrev pub numbers_in : Numbering → Sets → Numbers
@@ -36,5 +42,5 @@ target_in n t = (numbered n.names t.0, t.1)
 pub record Makes {A : Type 0} (n : Numbering) (old new : Classes) (view : Numbers → A) (x : A) : Type 0 where
   pub classes : new.classes ≡ old.classes
   pub follows : Follows old.sets new.sets
-  pub rise : AllRise n.classes old.sets → AllRise n.classes new.sets
-  pub means : (later : Sets) → Follows new.sets later → AllRise n.classes later → view (numbers_in n later) ≡ x
+  pub sets : AreSets n.classes old.sets → AreSets n.classes new.sets
+  pub means : (later : Sets) → Follows new.sets later → AreSets n.classes later → view (numbers_in n later) ≡ x

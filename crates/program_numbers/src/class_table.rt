@@ -1,5 +1,6 @@
-ghost use Rattle.std.specs.Prelude.{IfOk, map};
-ghost use Rattle.algolw_typing.specs.Known.{FieldsKnow, ClassesKnow};
+ghost use Rattle.std.specs.Prelude.{◌≡◌, IfOk, map};
+ghost use Rattle.algolw_typing.specs.Known.{AllHad, FieldsKnow, ClassesKnow};
+ghost use Rattle.algolw_typing.specs.ProgramView.{numbered};
 ghost use Rattle.block_scopes.specs.ClassView.{class_view, field_view};
 ghost use Rattle.program_numbers.specs.Makes.{Makes};
 ghost use Rattle.program_numbers.specs.HoldsClasses.{HoldsClasses, field_in, named_class};
@@ -43,5 +44,18 @@ impl Numbering {
             table.add_class(class.name, fields)?;
         }
         Ok(table)
+    }
+
+    /// The numbers of the names of record classes.
+    pub fn class_names(&self, classes: &[FoundClass]) -> Result<Vec<u32>, AllocError>
+        requires { AllHad self.now.names (map (λ class. class.place) (map class_view classes.now)) }
+        ensures { IfOk result (λ numbers. map (numbered self.now.names) numbers.items
+            ≡ map (λ class. class.place) (map class_view classes.now)) }
+    {
+        let mut numbers = Vec::new(self.alloc);
+        for class in classes {
+            numbers.push(self.names.number(class.place))?;
+        }
+        Ok(numbers)
     }
 }

@@ -7,7 +7,7 @@ ghost use Rattle.record_classes.specs.Classes.{set_of};
 ghost use Rattle.typed_drafts.specs.DraftView.{placed_view};
 ghost use Rattle.typing_rules.specs.ClassSets.{Rising};
 ghost use Rattle.typing_rules.specs.View.{value_type, phrase_type};
-ghost use Rattle.program_numbers.specs.Makes.{Makes, places_in, target_in};
+ghost use Rattle.program_numbers.specs.Makes.{Makes, HasMembers, places_in, target_in};
 ghost use Rattle.program_numbers.specs.Numbered.{StatementNumbered};
 
 use crate::place_numbers::PlaceNumbers;
@@ -70,7 +70,8 @@ impl Numbering {
     /// The number of a record class.
     fn class(&self, class: Place) -> Result<ClassId, AllocError>
         requires { has self.now.classes class ≡ true }
-        ensures { IfOk result (λ id. numbered self.now.classes id.0 ≡ class) }
+        ensures place { IfOk result (λ id. numbered self.now.classes id.0 ≡ class) }
+        ensures within { IfOk result (λ id. id.0 < length self.now.classes) }
     {
         match u16::try_from(self.classes.number(class)) {
             Ok(number) => Ok(ClassId(number)),
@@ -81,7 +82,8 @@ impl Numbering {
     /// The numbers of record classes.
     fn class_ids(&self, classes: &[Place]) -> Result<Vec<ClassId>, AllocError>
         requires { AllHad self.now.classes classes.now }
-        ensures { IfOk result (λ ids. places_in self.now.classes ids.items ≡ classes.now) }
+        ensures places { IfOk result (λ ids. places_in self.now.classes ids.items ≡ classes.now) }
+        ensures members { IfOk result (λ ids. HasMembers self.now.classes ids.items) }
     {
         let mut ids = Vec::new(self.alloc);
         for class in classes {

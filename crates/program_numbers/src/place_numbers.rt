@@ -1,4 +1,4 @@
-ghost use Rattle.std.specs.Prelude.{◌≡◌, IfOk, true};
+ghost use Rattle.std.specs.Prelude.{◌≡◌, ◌<◌, IfOk, length, true};
 ghost use Rattle.algolw_typing.specs.ProgramView.{numbered};
 ghost use Rattle.algolw_typing.specs.Types.{has};
 
@@ -46,7 +46,8 @@ impl PlaceNumbers {
     /// A number of a place.
     pub(crate) fn number(&self, place: Place) -> u32
         requires { has self.now place ≡ true }
-        ensures { numbered self.now result ≡ place }
+        ensures place { numbered self.now result ≡ place }
+        ensures within { result < length self.now }
     {
         match self.numbers.get(&place) {
             Some(number) => *number,

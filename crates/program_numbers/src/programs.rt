@@ -1,5 +1,5 @@
 ghost use Rattle.std.specs.Prelude.{◌≡◌, IfOk, OnOk, map};
-ghost use Rattle.algolw_typing.specs.Known.{Knows, ClassesKnow};
+ghost use Rattle.algolw_typing.specs.Known.{AllHad, Knows, ClassesKnow};
 ghost use Rattle.algolw_typing.specs.ProgramView.{HoldsProgram};
 ghost use Rattle.algolw_typing.specs.Programs.{by_place, statements};
 ghost use Rattle.typed_drafts.specs.DraftView.{draft_view};
@@ -86,6 +86,8 @@ pub fn number_program<'a>(
         (map (λ class. class.place) (map class_view classes.now)) (draft_view draft.now) }
     requires fields { ClassesKnow (map (λ class. class.place) (map class_view classes.now))
         (map class_view classes.now) }
+    requires named { AllHad (map (λ info. info.place) names.items)
+        (map (λ class. class.place) (map class_view classes.now)) }
     ensures { IfOk result (λ program. HoldsProgram program
         (record {
           root = draft_view draft.now;
@@ -98,10 +100,12 @@ pub fn number_program<'a>(
     let numbering = program_numbering(alloc, draft, &names, classes)?;
     let mut table = numbering.class_table(classes)?;
     let root = numbering.node(&mut table, draft)?;
+    let class_names = numbering.class_names(classes)?;
     Ok(Program {
         root,
         names,
         classes: table.into_table(),
+        class_names,
         statements: numbering.into_statements(),
     })
 }

@@ -149,3 +149,26 @@ numbers-push sets set members n old new knows up same none number is = record {
 pub where_ok : {T E : Type 0} (r : Result T E) (P : Type 0) → false ≡ is_err r → OnOk r P → P
 where_ok (Ok x) P h p = p
 where_ok (Err e) P h p = cc
+
+-- ---- a set that is there once more
+
+again_by : (same : Bool) (sets : List (List ClassId)) (b a : List ClassId) → is_same_set b a ≡ same → number_of sets b < length sets → known_number (sets ++ b ∷ []) a ≡ known_number sets a
+again_by false sets b a is there = known-kept sets b a is
+again_by true sets b a is there =
+    let n = number_of-same sets b a is in
+    let before : number_of sets a < length sets = omega (arith, there, n) in
+    let kept = number_of-kept sets b a before in
+    known-there (sets ++ b ∷ []) a (omega (arith, length_push sets b))
+    ∙ ap {B = Option SetId} (λ (k : ℕ). Some (record { 0 = k })) kept
+    ∙ sym (known-there sets a before)
+
+-- the numbers are the same
+pub numbers-again : (sets : List (List ClassId)) (set : List ClassId) (members : Vec ClassId Global) (s : SetId) (numbers : BTreeMap (Vec ClassId Global) SetId) → Numbers sets numbers
+    → Rising members.items → is_same_set members.items set ≡ true → Some s ≡ get members_cmp numbers members → Numbers (sets ++ set ∷ []) numbers
+numbers-again sets set members s numbers knows up same found =
+    let n = number_of-same sets members.items set same in
+    let there = there_by (nat_lt (number_of sets members.items) (length sets)) sets members.items s refl (sym (knows.of members up) ∙ sym found) in
+    let known : number_of sets set < length sets = omega (arith, there.1, n) in
+    record {
+      of = λ q up'. knows.of q up' ∙ sym (again_by (is_same_set set q.items) sets set q.items refl known);
+    }

@@ -44,6 +44,17 @@ impl Class {
         })
     }
 
+    /// The same class, held anew.
+    pub(crate) fn copied(&self) -> Result<Class, AllocError>
+        ensures { IfOk result (λ class. class ≡ self.now) }
+    {
+        Ok(Class {
+            name: self.name,
+            fields: self.fields.clone()?,
+            positions: self.positions.clone()?,
+        })
+    }
+
     /// Its name.
     pub(crate) fn name(&self) -> &Name
         ensures { result.now ≡ self.now.name }

@@ -41,6 +41,16 @@ impl ClassSet {
         Ok(ClassSet { classes, members })
     }
 
+    /// The same set, held anew.
+    pub(crate) fn copied(&self) -> Result<ClassSet, AllocError>
+        ensures { IfOk result (λ set. set ≡ self.now) }
+    {
+        Ok(ClassSet {
+            classes: self.classes.clone()?,
+            members: self.members.clone()?,
+        })
+    }
+
     /// Its classes, as they were added.
     pub(crate) fn classes(&self) -> &[ClassId]
         ensures { result.now ≡ self.now }

@@ -1,4 +1,4 @@
-ghost use Rattle.std.specs.Prelude.{◌≡◌, ◌<◌, IfOk, OnErr, OnOk, length};
+ghost use Rattle.std.specs.Prelude.{[], ◌≡◌, ◌<◌, ◌∷◌, ◌++◌, IfOk, OnErr, OnOk, length};
 ghost use Rattle.record_classes.specs.Classes.{Classes, no_classes, with_class, with_set, number_of, has, set_of, class_of, position_of};
 
 use crate::class::Class;
@@ -40,6 +40,39 @@ impl ClassTable {
             sets: Vec::new(alloc),
             numbers: BTreeMap::new(alloc),
         }
+    }
+
+    /// The same table, held anew.
+    pub fn copied(&self, alloc: Global) -> Result<ClassTable, AllocError>
+        ensures { IfOk result (λ table. table ≡ self.now) }
+    {
+        let mut table = ClassTable::new(alloc);
+        for class in &self.classes {
+            table.classes.push(class.copied()?)?;
+        }
+        for set in &self.sets {
+            table.push_set(set.copied()?)?;
+        }
+        Ok(table)
+    }
+
+    /// Adds a set, also where an equal one is there.
+    fn push_set(&mut self, set: ClassSet) -> Result<(), AllocError>
+        ensures { OnOk result (self.new ≡ record self.old { sets = self.old.sets ++ set ∷ [] }) }
+    {
+        let Ok(number) = u16::try_from(self.sets.len()) else {
+            return Err(AllocError);
+        };
+        let members = set.members()?;
+        self.sets.push(set)?;
+        if let Some(_number) = self.numbers.get(&members) {
+            return Ok(());
+        }
+        if self.numbers.insert(members, SetId(number)).is_err() {
+            self.sets.pop();
+            return Err(AllocError);
+        }
+        Ok(())
     }
 
     /// How many classes there are.

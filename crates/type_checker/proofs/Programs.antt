@@ -1,8 +1,10 @@
 -- The program that checking gives: what its numbering asks for, and what it is.
-use Rattle.std.proofs.Common.{◌≡◌, ◌≢◌, Bool, true, false, List, [], ◌∷◌, ℕ, ◌==◌, length, map, take, vec_len, refl, sym, ap, subst, ◌∙◌, arith}
+use Rattle.std.proofs.Common.{◌≡◌, ◌≢◌, Bool, true, false, List, [], ◌∷◌, ℕ, zero, suc, ◌<◌, ◌==◌, length, map, take, get_or, vec_len, refl, sym, ap, subst, ◌∙◌, arith}
+use Rattle.std.proofs.lemmas.Bool.{or_left, or_right}
 use Rattle.std.proofs.lemmas.Bool.Decides.{nat_tests}
 use Rattle.std.proofs.lemmas.List.{nil_from_length}
 use Rattle.std.specs.Prelude.{Result, Ok, Err, IfOk}
+use Rattle.std.specs.List.{All}
 use Rattle.std.specs.declared.alloc.AllocError.{AllocError}
 use Rattle.std.specs.declared.alloc.Global.{Global}
 use Rattle.std.specs.declared.vec.Vec.{Vec}
@@ -13,12 +15,14 @@ use Rattle.algolw_tree.specs.declared.programs.Program.{Program}
 use Rattle.algolw_tree.specs.declared.programs.Use.{Use}
 use Rattle.algolw_tree.specs.Tree.{Phrase}
 use Rattle.algolw_typing.specs.Faults.{inserted, in_order, is_in_front, faults_found, program_faults, typed_program}
-use Rattle.algolw_typing.specs.Known.{Knows, ClassesKnow}
+use Rattle.algolw_typing.specs.Known.{AllHad, Knows, ClassesKnow, IsNamed}
+use Rattle.algolw_typing.specs.Types.{has, is_place}
 use Rattle.algolw_typing.specs.Naming.{Class, program_naming}
 use Rattle.algolw_typing.specs.Programs.{TypedProgram, ordered_names, ordered_classes, program_of, by_place, statements}
 use Rattle.algolw_typing.specs.ProgramView.{HoldsProgram}
 use Rattle.algolw_typing.specs.Typed as typed
 use Rattle.algolw_typing.proofs.KnownPrograms.{nothing_is_unknown}
+use Rattle.typing_rules.proofs.Sets.{place_itself}
 use Rattle.block_scopes.specs.ClassView.{class_view}
 use Rattle.block_scopes.specs.Resolution.{IsResolution}
 use Rattle.block_scopes.specs.declared.classes.FoundClass.{FoundClass}
@@ -66,6 +70,25 @@ known_names x names uses found faults root none r e =
 pub known_fields : (x : Phrase) (names : List NameInfo) (uses : List Use) (found : List FoundClass) (faults : List Diagnostic) → program_faults x ≡ [] → IsResolution x names uses found faults
     → ClassesKnow (map (λ (c : Class). c.place) (map class_view found)) (map class_view found)
 known_fields x names uses found faults none r = subst (λ (cs : List Class). ClassesKnow (map (λ (c : Class). c.place) cs) cs) (sym r.classes) (nothing_is_unknown.fields x none)
+
+is_there : (names : List NameInfo) (k : ℕ) (i : NameInfo) (p : Place) → k < length names → get_or names k i ≡ i → i.place ≡ p → has (map (λ (j : NameInfo). j.place) names) p ≡ true
+is_there [] k i p within at e = absurd (omega arith)
+is_there (j ∷ names) zero i p within at e = or_left (is_place j.place p) (has (map (λ (j : NameInfo). j.place) names) p) (ap (λ q. is_place q p) (ap (λ (n : NameInfo). n.place) at ∙ e) ∙ place_itself p)
+is_there (j ∷ names) (suc k) i p within at e = or_right (is_place j.place p) (has (map (λ (j : NameInfo). j.place) names) p) (is_there names k i p (omega (arith, within)) at e)
+
+all_there : (names : List NameInfo) (cs : List Class) → All (IsNamed names) cs → AllHad (map (λ (i : NameInfo). i.place) names) (map (λ (c : Class). c.place) cs)
+all_there names [] h = tt
+all_there names (c ∷ cs) h =
+    let first : IsNamed names c = h 0 c (omega arith) in
+    (is_there names first.0 first.1 c.place first.2 first.3 first.4.0, all_there names cs (λ k d within. h (suc k) d (omega (arith, within))))
+
+pub known_classes : (x : Phrase) (names : List NameInfo) (uses : List Use) (found : List FoundClass) (faults : List Diagnostic) → IsResolution x names uses found faults → AllHad (map (λ (i : NameInfo). i.place) names) (map (λ (c : Class). c.place) (map class_view found))
+known_classes x names uses found faults r =
+    subst (λ (cs : List Class). AllHad (map (λ (i : NameInfo). i.place) names) (map (λ (c : Class). c.place) cs)) (sym r.classes)
+    (
+    subst (λ (is : List NameInfo). AllHad (map (λ (i : NameInfo). i.place) is) (map (λ (c : Class). c.place) (ordered_classes (program_naming x)))) (sym r.declared)
+    (all_there (ordered_names (program_naming x)) (ordered_classes (program_naming x)) (nothing_is_unknown.classes x))
+    )
 
 abbrev pub at_program : typed.Node → List NameInfo → List Class → TypedProgram
 at_program root names classes = record { root = root; names = names; classes = classes; statements = by_place (λ (p : Place). p) (statements root) }

@@ -20,8 +20,13 @@ node-requires c =
     let known = subst (λ ps. Knows n.names ps x) (sym c.in_ok-numbering.ensures.classes) (subst (λ ps. Knows ps (map (λ class. class.place) (map class_view c.args.classes.now)) x) (sym names) c.requires.known) in
     tree_numbered n x known (subst (λ ps. AllHad ps (statements x)) (sym c.in_ok-numbering.ensures.statements) (all_sorted (statements x)))
 
+pub class_names-requires : goal.class_names-requires
+class_names-requires c =
+    let names = c.in_ok-numbering.ensures.names ∙ ap (map (λ info. info.place)) c.deref.ensures.value in
+    subst (λ ps. AllHad ps (map (λ class. class.place) (map class_view c.args.classes.now))) (sym names) c.requires.named
+
 pub returns : goal.returns
 returns c =
     program_held c.in_ok-numbering.numbering c.in_ok-table.table _ _ refl (c.into_statements.ensures ∙ c.in_ok-numbering.ensures.statements) (c.in_ok-numbering.ensures.names ∙ ap (map (λ info. info.place)) c.deref.ensures.value) c.in_ok-numbering.ensures.classes
-    (sym c.into_statements.ensures) c.in_ok-table.ensures
+    (sym c.into_statements.ensures) c.in_ok-class_names.ensures c.in_ok-table.ensures
     (subst (λ t. Makes c.in_ok-numbering.numbering c.in_ok-table.table t (λ ns. node_view ns c.in_ok-root.root) (draft_view c.args.draft.now)) (sym c.into_table.ensures) c.in_ok-root.ensures)

@@ -1,11 +1,11 @@
 use Rattle.std.proofs.Common.{List, map, subst, sym}
 use Rattle.std.specs.Prelude.{IfOk}
 use Rattle.algolw_tree.specs.View.{tree}
-use Rattle.algolw_typing.specs.Known.{Knows, ClassesKnow}
+use Rattle.algolw_typing.specs.Known.{AllHad, Knows, ClassesKnow}
 use Rattle.block_scopes.specs.ClassView.{class_view}
 use Rattle.block_scopes.specs.declared.classes.FoundClass.{FoundClass}
 use Rattle.typed_drafts.specs.DraftView.{draft_view}
-use Rattle.type_checker.proofs.Programs.{at_program, known_names, known_fields, if_held}
+use Rattle.type_checker.proofs.Programs.{at_program, known_names, known_fields, known_classes, if_held}
 use Rattle.algolw_typing.specs.ProgramView.{HoldsProgram}
 use Rattle.type_checker.proofs.checking.good_program.Goals as goal
 
@@ -20,6 +20,12 @@ number_program-requires-clause-fields c =
     let scopes = c.in_ok-scopes.scopes in
     subst (λ (cs : List FoundClass). ClassesKnow (map (λ class. class.place) (map class_view cs)) (map class_view cs)) (sym c.deref.ensures.value)
     (known_fields (tree c.args.phrase.now) scopes.names.items scopes.uses.items scopes.classes.items scopes.faults.items c.requires.faults c.in_ok-scopes.ensures)
+
+pub number_program-requires-clause-named : goal.number_program-requires-clause-named
+number_program-requires-clause-named c =
+    let scopes = c.in_ok-scopes.scopes in
+    subst (λ (cs : List FoundClass). AllHad (map (λ info. info.place) scopes.names.items) (map (λ class. class.place) (map class_view cs))) (sym c.deref.ensures.value)
+    (known_classes (tree c.args.phrase.now) scopes.names.items scopes.uses.items scopes.classes.items scopes.faults.items c.in_ok-scopes.ensures)
 
 pub returns : goal.returns
 returns c =

@@ -111,7 +111,7 @@ pub node-returns : goal.node-returns
 node-returns t c = node_made c.args.self.now _ _ _ c.args.draft.now.place c.args.draft.now.first _ _ _ _ _ _ c.statement-statement.ensures c.in_ok-kind.ensures c.in_ok-gives.ensures
 
 pub named-returns : goal.named-returns
-named-returns t c = named_made c.args.self.now _ _ _ c.args.name _ _ c.number.ensures c.in_ok-lists.ensures
+named-returns t c = named_made c.args.self.now _ _ _ c.args.name _ _ c.number.ensures.place c.in_ok-lists.ensures
 
 pub chain-returns : goal.chain-returns
 chain-returns t c = chain_made c.args.self.now _ _ _ c.in_ok-first.first c.in_ok-links.links _ _ c.in_ok-first.ensures c.in_ok-links.ensures
@@ -135,10 +135,10 @@ pub case_do-returns : goal.case_do-returns
 case_do-returns t c = case_do_made c.args.self.now _ _ _ c.in_ok-subject.subject c.in_ok-parts.parts _ _ c.in_ok-subject.ensures c.in_ok-parts.ensures
 
 pub stepped-returns : goal.stepped-returns
-stepped-returns t c = for_step_made c.args.self.now _ _ _ _ _ _ c.args.control c.in_ok-start.start c.in_ok-step.step c.in_ok-limit.limit c.in_ok-body.body _ _ _ _ c.number-control.ensures c.in_ok-start.ensures c.in_ok-step.ensures c.in_ok-limit.ensures c.in_ok-body.ensures
+stepped-returns t c = for_step_made c.args.self.now _ _ _ _ _ _ c.args.control c.in_ok-start.start c.in_ok-step.step c.in_ok-limit.limit c.in_ok-body.body _ _ _ _ c.number-control.ensures.place c.in_ok-start.ensures c.in_ok-step.ensures c.in_ok-limit.ensures c.in_ok-body.ensures
 
 pub listed-returns : goal.listed-returns
-listed-returns t c = for_list_made c.args.self.now _ _ _ _ c.args.control c.in_ok-values.values c.in_ok-body.body _ _ c.number.ensures c.in_ok-values.ensures c.in_ok-body.ensures
+listed-returns t c = for_list_made c.args.self.now _ _ _ _ c.args.control c.in_ok-values.values c.in_ok-body.body _ _ c.number.ensures.place c.in_ok-values.ensures c.in_ok-body.ensures
 
 pub block-returns : goal.block-returns
 block-returns t c = block_made c.args.self.now _ _ _ _ _ _ _ c.in_ok-decls.ensures c.in_ok-items.ensures
@@ -221,4 +221,4 @@ items-loop-item-preserved t c = turn c.args.self.now c.args.table.now c.loop-ite
 pub procedure-returns : goal.procedure-returns
 procedure-returns t c =
     makes_as c.args.self.now _ _ _ _ _ (procedure_at c.args.procedure.now)
-    (procedure_made c.args.self.now _ _ _ _ _ c.in_ok-result.result _ c.in_ok-formals.formals c.in_ok-body.body _ _ _ _ (ap (λ q. (q, (out-DraftProc c.args.procedure.now).name)) c.number.ensures) c.in_ok-result.ensures c.in_ok-formals.ensures c.in_ok-body.ensures)
+    (procedure_made c.args.self.now _ _ _ _ _ c.in_ok-result.result _ c.in_ok-formals.formals c.in_ok-body.body _ _ _ _ (ap (λ q. (q, (out-DraftProc c.args.procedure.now).name)) c.number.ensures.place) c.in_ok-result.ensures c.in_ok-formals.ensures c.in_ok-body.ensures)

@@ -1,0 +1,7 @@
+use Rattle.std.proofs.Common.{◌≡◌, map, take}
+use Rattle.algolw_typing.specs.ProgramView.{numbered}
+use Rattle.block_scopes.specs.ClassView.{class_view}
+use Rattle.program_numbers.proofs.numbering.Numbering.class_names.Given as goal
+
+abbrev pub invariant-loop-class : goal.invariant-loop-class
+invariant-loop-class l = map (numbered l.self.names) l.numbers.items ≡ map (λ class. class.place) (map class_view (take l.class-index l.classes))
