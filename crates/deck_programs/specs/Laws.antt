@@ -14,7 +14,7 @@ use Rattle.program_meaning.specs.Copying.{Closed}
 use Rattle.program_meaning.specs.Results.{ending_text}
 use Rattle.program_meaning.specs.Translating.{program_phrase}
 use Rattle.program_soundness.specs.Laws.{IsNeverWrong, NeverGoesWrong}
-use Rattle.faultless_programs.specs.Laws.{IsDeckTree}
+use Rattle.faultless_programs.specs.Laws.{IsDeckTree, IsPlaced}
 use Rattle.algolw_meaning.specs.DeckDiagnostics.{HasProgram, deck_diagnostics}
 use Rattle.algolw_meaning.specs.Meaning.{JobResult, diagnosed}
 use Rattle.algolw_meaning.specs.Running.{program_outcome, run_result, job_result}
@@ -22,6 +22,10 @@ use Rattle.algolw_meaning.specs.Running.{program_outcome, run_result, job_result
 -- What the tokens of a deck spell is a tree of a deck: its declarations stand apart, and no quoted text is empty.
 abbrev pub TreesOfDecks : Type 0
 TreesOfDecks = (deck : List (List ℕ)) (tokens : List Token) (x : Phrase) (b : Beyond) → AreTokens deck tokens → Spells tokens x b → IsDeckTree x
+
+-- Each of its declarations stands on a card.
+abbrev pub TreesOfDecksArePlaced : Type 0
+TreesOfDecksArePlaced = (deck : List (List ℕ)) (tokens : List Token) (x : Phrase) (b : Beyond) → AreTokens deck tokens → Spells tokens x b → IsPlaced x
 
 -- The tokens of a deck that has no diagnostic spell a program, which, run with any data and limits, is never wrong.
 abbrev pub DecksAreNeverWrong : Type 0

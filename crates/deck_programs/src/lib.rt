@@ -3,4 +3,7 @@
 
 mod laws;
 
-pub use laws::{decks_are_never_wrong, jobs_are_never_wrong, texts_tell_wrong, trees_of_decks};
+pub use laws::{
+    decks_are_never_wrong, jobs_are_never_wrong, texts_tell_wrong, trees_of_decks,
+    trees_of_decks_are_placed,
+};

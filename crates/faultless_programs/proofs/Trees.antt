@@ -114,7 +114,7 @@ not_last : (c : translating.Context) (next : tree.Item) (rest : tree.Items) (pat
 not_last c (tree.Labelled ls b) rest path v table d a want labels h k = (h, k)
 
 -- what is counted or not declares the same
-uncounted_agree : (is : List Info) (n : typed.Node) → AllAgree is (infos (uncounted n)) → AllAgree is (infos n)
+pub uncounted_agree : (is : List Info) (n : typed.Node) → AllAgree is (infos (uncounted n)) → AllAgree is (infos n)
 uncounted_agree is (typed.At p f g s (typed.Assign a b)) h = h
 uncounted_agree is (typed.At p f g s _) h = h
 

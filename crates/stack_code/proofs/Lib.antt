@@ -2,4 +2,5 @@ pub mod Outcomes
 pub mod Fit
 pub mod Keeping
 pub mod Growing
+pub mod Linked
 pub mod Numbers

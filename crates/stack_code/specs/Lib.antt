@@ -10,3 +10,4 @@ pub mod Laws
 pub mod CodeView
 pub mod Making
 pub mod Made
+pub mod Linking

@@ -27,13 +27,13 @@ pub struct ProgramTables {
 /// code has.
 #[derive(Drop)]
 pub struct Code {
-    instructions: Vec<Coded>,
+    pub(crate) instructions: Vec<Coded>,
     marks: u32,
     tables: ProgramTables,
     strings: Vec<Text>,
     procedures: Vec<ProcedureHead>,
-    texts: Vec<TextHead>,
-    calls: Vec<ComparedCall>,
+    pub(crate) texts: Vec<TextHead>,
+    pub(crate) calls: Vec<ComparedCall>,
     stars: Vec<Stars>,
 }
 
@@ -219,6 +219,14 @@ impl Code {
         ensures { result ≡ has (set_of self.now.given.classes set) class }
     {
         self.tables.classes.set_has(set, class)
+    }
+
+    /// The classes of a set.
+    pub fn set_classes(&self, set: SetId) -> &[ClassId]
+        requires { set.0 < length self.now.given.classes.sets }
+        ensures { result.now ≡ set_of self.now.given.classes set }
+    {
+        self.tables.classes.set_classes(set)
     }
 
     /// The name of a class.

@@ -1,0 +1,10 @@
+pub mod Tables
+pub mod Emitting
+pub mod Composing
+pub mod Joining
+pub mod Lines
+pub mod Loops
+pub mod Remaining
+pub mod Singles
+pub mod Cases
+pub mod Actuals

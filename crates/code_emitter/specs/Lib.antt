@@ -1,0 +1,4 @@
+pub mod Appending
+pub mod Readings
+pub mod Parts
+pub mod Forms

@@ -1,0 +1,9 @@
+pub mod Contexts
+pub mod Unmoved
+pub mod Binders
+pub mod Suiting
+pub mod Standards
+pub mod Beginning
+pub mod Declarations
+pub mod Ordered
+pub mod Programs

@@ -1,0 +1,4 @@
+pub mod Begun
+pub mod Suits
+pub mod Compiled
+pub mod Laws

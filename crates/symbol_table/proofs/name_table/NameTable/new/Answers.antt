@@ -1,0 +1,18 @@
+use Rattle.std.proofs.Common.{◌≡◌, ◌+◌, ◌-◌, ◌∷◌, [], length, ap, ◌∙◌, arith}
+use Rattle.std.proofs.lemmas.List.{length-append}
+use Rattle.symbol_table.specs.declared.standings.Standing.TheVariants as standing
+use Rattle.symbol_table.proofs.Begun.{begun_more, begun_table}
+use Rattle.symbol_table.proofs.name_table.NameTable.new.Goals as goal
+
+pub loop-standings-preserved : goal.loop-standings-preserved
+loop-standings-preserved c =
+    let now = c.loop-standings.standings.items in
+    let n : length c.push-in-loop-standings.new.self.items ≡ length now + 1 = ap length c.in_ok-push-2.ensures.items ∙ length-append now (standing.Unknown ∷ []) in
+    record {
+      many = omega (arith, n, c.loop-standings.invariant.many);
+      few = omega (arith, n, c.loop-standings-test.true, c.len.ensures);
+      begun = begun_more now c.push-in-loop-standings.new.self.items c.loop-standings.invariant.many c.loop-standings.invariant.begun c.in_ok-push-2.ensures.items;
+    }
+
+pub invariant_of-result : goal.invariant_of-result
+invariant_of-result c = begun_table c.loop-standings.standings.items c.new.result.items (length c.loop-standings.standings.items - 12) c.new.ensures.items c.loop-standings.invariant.begun

@@ -1,0 +1,112 @@
+ghost use Rattle.std.specs.Prelude.{◌≡◌, ◌∷◌, ◌-◌, ◌<◌, ◌≤◌, IfOk, OnErr, OnOk, drop, length, max};
+ghost use Rattle.symbol_table.specs.Standings.{every_name, standing_of};
+
+use crate::standings::{Standard, Standing};
+use stack_code::UnaryOp;
+use std::alloc::{AllocError, Global};
+use std::marker::Model;
+
+/// The names of every deck, in order of place.
+const STANDARD: [Standard; 12] = [
+    Standard::Function(UnaryOp::IsOdd),
+    Standard::Function(UnaryOp::ToBits),
+    Standard::Function(UnaryOp::ToNumber),
+    Standard::Function(UnaryOp::ToCharacter),
+    Standard::Function(UnaryOp::ToCode),
+    Standard::Read { next: true },
+    Standard::Read { next: false },
+    Standard::ReadCard,
+    Standard::Write { first: true },
+    Standard::Write { first: false },
+    Standard::IoControl,
+    Standard::MaxInteger,
+];
+
+/// What each name stands for, by its number.
+#[derive(Drop)]
+pub(crate) struct NameTable {
+    standings: Vec<Standing>,
+    /// What the names that are declared stood for before, each with its number.
+    before: Vec<(u32, Standing)>,
+}
+
+impl Model for NameTable {
+    ghost use Rattle.symbol_table.specs.Standings.{TableView};
+
+    ghost Value = { TableView };
+
+    ghost use Rattle.symbol_table.specs.Standings.{table_view, IsTable};
+
+    ghost view = { λ t. table_view t.standings.items t.before.items };
+
+    ghost invariant = { λ t. IsTable t.standings.items t.before.items };
+}
+
+impl NameTable {
+    /// So many names, of which those of every deck stand for what they are, and the others for nothing.
+    pub fn new(alloc: Global, count: usize) -> Result<NameTable, AllocError>
+        ensures { IfOk result (λ t. t ≡ record { names = every_name; count = max 12 count }) }
+    {
+        let mut standings = Vec::new(alloc);
+        for standard in STANDARD {
+            standings.push(Standing::Standard(standard))?;
+        }
+        while standings.len() < count {
+            standings.push(Standing::Unknown)?;
+        }
+        Ok(NameTable {
+            standings,
+            before: Vec::new(alloc),
+        })
+    }
+
+    /// What a name stands for.
+    pub fn standing(&self, name: u32) -> Standing
+        ensures { result ≡ standing_of self.now.names name }
+    {
+        match self.standings.get(name as usize) {
+            Some(standing) => *standing,
+            None => Standing::Unknown,
+        }
+    }
+
+    /// Declares a name.
+    pub fn declare(&mut self, name: u32, standing: Standing) -> Result<(), AllocError>
+        requires { name < self.old.count }
+        ensures added { OnOk result (self.new ≡ record self.old { names = (name, standing) ∷ self.old.names }) }
+        ensures unchanged { OnErr result (self.new ≡ self.old) }
+    {
+        let before = self.standing(name);
+        self.before.push((name, before))?;
+        self.standings[name as usize] = standing;
+        Ok(())
+    }
+
+    /// How many are declared, those of every deck among them.
+    pub fn declared(&self) -> usize
+        ensures all { result ≡ length self.now.names }
+        ensures standard { 12 ≤ result }
+    {
+        self.before.len() + STANDARD.len()
+    }
+
+    /// Takes back all but the first so many that are declared.
+    pub fn take_back(&mut self, declared: usize)
+        requires { 12 ≤ declared }
+        ensures { self.new ≡ record self.old { names = drop (length self.old.names - declared) self.old.names } }
+    {
+        while self.declared() > declared {
+            self.take_one_back();
+        }
+    }
+
+    /// Takes the newest declaration back, where it isn't one of every deck.
+    fn take_one_back(&mut self)
+        requires { 12 < length self.old.names }
+        ensures { self.new ≡ record self.old { names = drop 1 self.old.names } }
+    {
+        if let Some((name, before)) = self.before.pop() {
+            self.standings[name as usize] = before;
+        }
+    }
+}
