@@ -1,0 +1,5 @@
+pub mod Fresh
+pub mod Digits
+pub mod Walked
+pub mod Whole
+pub mod Orders

@@ -1,0 +1,12 @@
+// The command words: what they tell the monitor to do.
+#![tactic(auto)]
+
+mod laws;
+mod numbers;
+mod options;
+mod order;
+#[cfg(test)]
+mod tests;
+
+pub use laws::words_say_one_order;
+pub use order::{Order, WordsError, read_words};

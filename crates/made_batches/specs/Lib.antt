@@ -1,0 +1,4 @@
+pub mod Decks
+pub mod Draws
+pub mod Laws
+pub mod MadeBatch

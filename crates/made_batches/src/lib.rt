@@ -1,0 +1,12 @@
+// Batches that are made from a seed.
+#![tactic(auto)]
+
+mod batch;
+mod decks;
+mod draws;
+mod laws;
+#[cfg(test)]
+mod tests;
+
+pub use batch::make_batch;
+pub use laws::made_batch_fits;
