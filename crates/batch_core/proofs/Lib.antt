@@ -1,0 +1,9 @@
+mod Charges
+mod Bounds
+mod Stages
+mod Steps
+mod Money
+mod Running
+mod Written
+mod Lists
+mod Listed
