@@ -83,7 +83,7 @@ decision_same (Some flaw) account reserve b c h = refl
 decision_same None None reserve b c h = refl
 decision_same None (Some account) reserve b c h = ap (λ (n : ℕ). cond (nat_le reserve n) (Accepted account) (Refused reserve n)) (h account)
 
-decided_at : (openings balances : List ℕ) (earlier : List JobView) (job : JobView) → balances ≡ balances_behind openings (map charged earlier)
+pub decided_at : (openings balances : List ℕ) (earlier : List JobView) (job : JobView) → balances ≡ balances_behind openings (map charged earlier)
     → decision (slice_index balances) job ≡ decision (place_balance openings (map charged earlier)) job
 decided_at openings balances earlier job behind =
     decision_same job.flaw job.account (reserve job) (slice_index balances) (place_balance openings (map charged earlier))

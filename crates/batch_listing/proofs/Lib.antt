@@ -1,3 +1,4 @@
 pub mod Sections
 pub mod Deciding
 pub mod Written
+pub mod Tallying

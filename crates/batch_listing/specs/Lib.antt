@@ -3,3 +3,4 @@ pub mod Listing
 pub mod Writing
 pub mod Behind
 pub mod Laws
+pub mod Tallies

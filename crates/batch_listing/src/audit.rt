@@ -1,4 +1,4 @@
-ghost use Rattle.std.specs.Prelude.{◌≡◌, ◌≤◌, ◌⊎◌, ◌+◌, ◌-◌, ◌^◌, ◌++◌, ◌↔◌, ◌∷◌, [], List, Some, IfOk, OnOk, OnErr, IfSome, IsSome, false, true, min, map, slice_index};
+ghost use Rattle.std.specs.Prelude.{◌≡◌, ◌≤◌, ◌⊎◌, ◌+◌, ◌-◌, ◌^◌, ◌++◌, ◌↔◌, ◌∷◌, [], List, Some, IfOk, OnOk, OnErr, IfSome, IsSome, false, true, length, min, map, slice_index};
 ghost use Rattle.deck_reader.specs.JobView.{JobView};
 ghost use Rattle.account_book.specs.BookView.{openings_of};
 ghost use Rattle.account_book.specs.Charges.{charge};
@@ -7,12 +7,15 @@ ghost use Rattle.algolw_meaning.specs.Meaning.{narrow_result};
 ghost use Rattle.batch_listing.specs.Texts.{closing};
 ghost use Rattle.batch_listing.specs.Listing.{accepted, body, charged, closing_lines, decision, section};
 ghost use Rattle.batch_listing.specs.Behind.{Fits, IsBehind};
+ghost use Rattle.batch_summary.specs.Tally.{tally_with};
+ghost use Rattle.batch_listing.specs.Tallies.{ended_so, entry_by, sections_tally};
 
 use crate::decision::{Decision, decide};
-use crate::lines;
+use crate::lines::{self, heading};
 use account_book::{Book, charge_of};
+use batch_summary::{Entry, Outcome, Tally};
 use deck_reader::Job;
-use job_runner::{Brought, Desk, Ended, run_job};
+use job_runner::{Brought, Desk, Ended, Ending, run_job};
 use std::alloc::{AllocError, Global};
 use std::sync::Arc;
 
@@ -21,16 +24,36 @@ use std::sync::Arc;
 #[derive(Drop)]
 pub struct Audit {
     book: Book,
+    tally: Tally,
     reruns: u32,
+}
+
+/// The tally of the heading alone.
+fn heading_tally() -> Tally
+    ensures { result ≡ sections_tally [] [] }
+{
+    Tally {
+        normal: 0,
+        fault: 0,
+        limit: 0,
+        diagnosed: 0,
+        refused: 0,
+        charges: 0,
+        bytes: heading().len() as u64,
+    }
 }
 
 impl Audit {
     /// The audit before the first section. Each account of the book must still have its opening.
     pub fn new(book: Book) -> Result<Audit, AllocError>
         requires { book.balances ≡ openings_of book.accounts }
-        ensures { IfOk result (λ audit. audit ≡ record { book = book; reruns = 0 }) }
+        ensures { IfOk result (λ audit. audit ≡ record { book = book; tally = sections_tally [] []; reruns = 0 }) }
     {
-        Ok(Audit { book, reruns: 0 })
+        Ok(Audit {
+            book,
+            tally: heading_tally(),
+            reruns: 0,
+        })
     }
 
     /// The section of the next job, behind those whose sections were made. A result that was brought is used where it
@@ -50,6 +73,12 @@ impl Audit {
             → OnOk result (IsBehind self.new.book (earlier ++ job.now.value ∷ [])) }
         ensures accounts { self.new.book.accounts ≡ self.old.book.accounts }
         ensures kept { OnErr result (self.new ≡ self.old) }
+
+        // The tally is that of the sections so far.
+        ensures tally { (earlier : List JobView) → IsBehind self.old.book earlier
+            → self.old.tally ≡ sections_tally (openings_of self.old.book.accounts) earlier
+            → OnOk result (self.new.tally
+            ≡ sections_tally (openings_of self.old.book.accounts) (earlier ++ job.now.value ∷ [])) }
 
         // The job is run exactly where it is accepted and no result for it was brought.
         ensures spared { (earlier : List JobView) → IsBehind self.old.book earlier
@@ -71,6 +100,13 @@ impl Audit {
         ensures { result ≡ self.now.reruns }
     {
         self.reruns
+    }
+
+    /// What the heading and the sections so far come to.
+    pub fn tally(&self) -> Tally
+        ensures { result ≡ self.now.tally }
+    {
+        self.tally
     }
 
     /// The closing lines behind the sections that were made.
@@ -98,6 +134,8 @@ impl Audit {
             ++ body (decision (slice_index self.old.book.balances) job.now.value) job.now.value) }
         ensures book { OnOk result (self.new.book.balances ≡ settled self.old.book.balances (charged job.now.value)) }
         ensures accounts { self.new.book.accounts ≡ self.old.book.accounts }
+        ensures tally { OnOk result (self.new.tally ≡ tally_with self.old.tally
+            (entry_by (decision (slice_index self.old.book.balances) job.now.value) job.now.value (length out.new.items))) }
         ensures kept { OnErr result (self.new ≡ self.old) }
         ensures spared { ((is_accepted (slice_index self.old.book.balances) (claim_of job.now.value) ≡ false)
             ⊎ Fits brought job.now.value)
@@ -107,8 +145,14 @@ impl Audit {
             → OnOk result (self.new.reruns ≡ min (self.old.reruns + 1) (2 ^ 32 - 1)) }
     {
         match decide(&self.book, job) {
-            Decision::Flawed(flaw) => lines::push_flawed(out, flaw),
-            Decision::Refused { reserve, balance } => lines::push_refused(out, reserve, balance),
+            Decision::Flawed(flaw) => {
+                lines::push_flawed(out, flaw)?;
+                self.count(Outcome::Refused, 0, out.as_slice())
+            }
+            Decision::Refused { reserve, balance } => {
+                lines::push_refused(out, reserve, balance)?;
+                self.count(Outcome::Refused, 0, out.as_slice())
+            }
             Decision::Accepted(account) => match fitting(brought, job) {
                 Some(ended) => self.push_ended(out, account, &ended),
                 None => {
@@ -133,12 +177,48 @@ impl Audit {
         ensures book { OnOk result (self.new.book.balances
             ≡ lowered self.old.book.balances (Some account) (charge (narrow_result ended.now.job).counts)) }
         ensures accounts { self.new.book.accounts ≡ self.old.book.accounts }
+        ensures tally { OnOk result (self.new.tally ≡ tally_with self.old.tally (record {
+          outcome = ended_so (narrow_result ended.now.job).ending;
+          charge = charge (narrow_result ended.now.job).counts;
+          bytes = length out.new.items;
+        })) }
         ensures reruns { self.new.reruns ≡ self.old.reruns }
         ensures kept { OnErr result (self.new ≡ self.old) }
     {
         out.extend_from_slice(ended.body())?;
-        self.book.settle(account, charge_of(ended.counts()));
+        let charge = charge_of(ended.counts());
+        self.count(ended_so(ended.ending()), charge, out.as_slice())?;
+        self.book.settle(account, charge);
         Ok(())
+    }
+
+    /// Counts a section. A number that would pass its type is want of memory: no listing has so many bytes.
+    fn count(&mut self, outcome: Outcome, charge: u64, section: &[u8]) -> Result<(), AllocError>
+        ensures tally { OnOk result (self.new.tally ≡ tally_with self.old.tally
+            (record { outcome = outcome; charge = charge; bytes = length section.now })) }
+        ensures book { self.new.book ≡ self.old.book }
+        ensures reruns { self.new.reruns ≡ self.old.reruns }
+        ensures kept { OnErr result (self.new ≡ self.old) }
+    {
+        let entry = Entry {
+            outcome,
+            charge,
+            bytes: section.len() as u64,
+        };
+        self.tally = self.tally.with(entry).ok_or(AllocError)?;
+        Ok(())
+    }
+}
+
+/// What became of a job that has ended so.
+fn ended_so(ending: Ending) -> Outcome
+    ensures { result ≡ ended_so ending }
+{
+    match ending {
+        Ending::Normal => Outcome::Normal,
+        Ending::Fault => Outcome::Fault,
+        Ending::Limit => Outcome::Limit,
+        Ending::Diagnosed => Outcome::Diagnosed,
     }
 }
 

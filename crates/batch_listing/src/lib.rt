@@ -10,6 +10,7 @@ mod tests;
 mod writing;
 
 pub use audit::Audit;
+pub use batch_summary::{Tally, summary_of};
 pub use laws::sections_by_table;
 pub use lines::heading;
 pub use writing::write_all_of;

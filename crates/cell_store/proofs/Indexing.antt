@@ -1,10 +1,10 @@
 -- Where an element stands.
 use Rattle.std.proofs.Common.{◌≡◌, ℕ, zero, suc, ◌+◌, ◌*◌, ◌<◌, ◌≤◌, min, ℤ, Bool, true, false, ◌&&◌, nat_lt, List, [], ◌∷◌, drop, map, length, get_or, Option, Some, None, Result, Ok, Err, inl, inr, is_some, not, add-zero, add-one, refl, sym, ap, ◌∙◌, arith}
-use Rattle.std.specs.Prelude.{slice_get, if◌then◌else◌}
+use Rattle.std.specs.Prelude.{slice_get, if◌then◌else◌, IfSome}
 use Rattle.std.specs.Option.{option_or, option_flatten}
 use mir.Val.{bool_byte}
 use Rattle.std.specs.Bool.{then_some}
-use Rattle.std.proofs.lemmas.Bool.{cases_lt}
+use Rattle.std.proofs.lemmas.Bool.{cases_lt, lt-ltb, le-ltb}
 use Rattle.std.proofs.lemmas.List.{at_drop_more}
 use Rattle.std.proofs.lemmas.Option.{cond_some}
 use Rattle.std.proofs.Math.Nat.{mul_assoc, add-mul}
@@ -148,3 +148,10 @@ pub not_found : (a : Array) (subscripts : List ℤ) → further_all a.dimensions
 not_found a subscripts stops =
     let more : List (Option ℤ) = map (λ i. Some i) subscripts in
     none_within (all_within (filled a.dimensions more)) (element a (filled a.dimensions more)) (min (0 * elements a.dimensions + offset (filled a.dimensions more)) 32768) (sym (further_all_is a.dimensions more 0 (omega arith)) ∙ stops)
+
+-- a cell that is found is one of the cells
+pub found_within : (first total n : ℕ) → first + total ≤ 32768 → IfSome (then_some (nat_lt n total) (first + n)) (λ cell. cell < 32768)
+found_within first total n h = elim (cases_lt n total) [
+  | inl below ↦ let is : nat_lt n total ≡ true = lt-ltb n total below in rw is (omega (arith, h, below))
+  | inr past ↦ let is : nat_lt n total ≡ false = le-ltb n total past in rw is tt
+]

@@ -64,6 +64,15 @@ pub enum Word {
     Place(Variable),
 }
 
+/// Pairs of bounds, behind which others stand that count for nothing.
+#[derive(Clone, Copy)]
+pub struct Bounds {
+    /// How many there are, at most 8.
+    pub count: usize,
+    /// The lower and the upper bound of each.
+    pub pairs: [(i32, i32); 8],
+}
+
 /// What a cell holds where a machine word has no room for it.
 #[derive(Clone, Copy)]
 pub enum Wide {
@@ -77,6 +86,8 @@ pub enum Wide {
     Thunk(Closed),
     /// A procedure.
     Procedure(Procedure),
+    /// The bounds of an array that is to be declared.
+    Bounds(Bounds),
 }
 
 /// What stands for a cell: a word, spelled out so that its kind and whether it is one take a byte together.

@@ -1,4 +1,4 @@
-ghost use Rattle.std.specs.Prelude.{◌≡◌, ◌≤◌, ◌<◌, ◌+◌, ℕ, List, length, map, min};
+ghost use Rattle.std.specs.Prelude.{◌≡◌, ◌≤◌, ◌<◌, ◌+◌, ℕ, List, length, map, min, IfOk, IfSome};
 ghost use Rattle.cell_store.specs.Arrays.{dimension, elements, extent, index_of, subarray_of, is_within};
 ghost use Rattle.cell_store.specs.Held.{further};
 
@@ -86,7 +86,8 @@ impl Descriptor {
     /// The cell of an element, by the subscripts that aren't given; none where the array has no such element. F3 exactly
     /// where a subscript is outside its bounds.
     pub fn index(&self, subscripts: &[i32]) -> Result<Option<u32>, Fault>
-        ensures { result ≡ index_of self.now subscripts.now }
+        ensures value { result ≡ index_of self.now subscripts.now }
+        ensures within { IfOk result (λ found. IfSome found (λ cell. cell < 32768)) }
     {
         let mut offset = 0;
         let mut next = 0;

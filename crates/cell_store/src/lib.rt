@@ -11,7 +11,7 @@ mod store;
 #[cfg(test)]
 mod tests;
 
-pub use cells::{Closed, Part, Procedure, Variable, Wide, Word};
+pub use cells::{Bounds, Closed, Part, Procedure, Variable, Wide, Word};
 pub use descriptor::Descriptor;
 pub use dimension::Dimension;
 pub use entries::{Entry, Frame, Mark, Purpose, Refusal};

@@ -1,6 +1,6 @@
 -- Classes, fields, and parts of strings.
 use Rattle.std.proofs.Common.{◌≡◌, ℕ, ◌+◌, ℤ, pos, negsuc, List, [], ◌∷◌, Option, Some, None, refl, ap, ◌∙◌, arith, ltb-true}
-use Rattle.std.specs.Prelude.{slice_get, nat_lt, nat_le, Bool, true, false, Result, Ok, Err}
+use Rattle.std.specs.Prelude.{slice_get, nat_lt, nat_le, min, Bool, true, false, Result, Ok, Err}
 use Rattle.value_ops.specs.declared.places.Place.{Place}
 use Rattle.value_ops.specs.declared.faults.Fault.{Fault}
 use Rattle.value_ops.specs.declared.faults.Fault.TheVariants as fault
@@ -174,11 +174,11 @@ module _ (set : Setting) (program : Code) where
             m0 : Machine
             m0 = mach (pushed (machine.a_spot (machine.within x l' o' cnt')) b) h s k (machine.a_value (value.Integer (pos i)))
 
-            row : (t : Bool) → nat_le (i + n) m ≡ t → does set program at (instr.Part m n) m0 ≡ (doing.test t (doing.hold (machine.a_spot (machine.within x l' (o' + i) n))) (doing.fault_now fault.PlaceOutsideString) >> go_on) (mach b h s k (machine.a_value (value.Integer (pos i))))
-            row t q = ap (λ z. (doing.test z (doing.hold (machine.a_spot (machine.within x l' (o' + i) n))) (doing.fault_now fault.PlaceOutsideString) >> go_on) (mach b h s k (machine.a_value (value.Integer (pos i))))) q
+            row : (t : Bool) → nat_le (i + n) m ≡ t → does set program at (instr.Part m n) m0 ≡ (doing.test t (doing.hold (machine.a_spot (machine.within x l' (min (o' + i) l') n))) (doing.fault_now fault.PlaceOutsideString) >> go_on) (mach b h s k (machine.a_value (value.Integer (pos i))))
+            row t q = ap (λ z. (doing.test z (doing.hold (machine.a_spot (machine.within x l' (min (o' + i) l') n))) (doing.fault_now fault.PlaceOutsideString) >> go_on) (mach b h s k (machine.a_value (value.Integer (pos i))))) q
 
-            which : (t : Bool) → nat_le (i + n) m ≡ t → Follows set program (Gives b s.active (k + 1)) w.targets h s m0 (state.test t (state.give (state.a_spot (state.within v l (o + i) n))) (state.fault_at fault.PlaceOutsideString at) s)
-            which true q = follows_on set program (Gives b s.active (k + 1)) w.targets h s m0 (mach b h s (k + 1) (machine.a_spot (machine.within x l' (o' + i) n))) (state.a_spot (state.within v l (o + i) n)) (one_row set program m0 (mach b h s (k + 1) (machine.a_spot (machine.within x l' (o' + i) n))) _ e (row true q)) (record { held = machine.a_spot (machine.within x l' (o' + i) n); holds = (hs.0, hs.1, ap (λ z. z + i) hs.2, refl); reached = record { is = refl; settled = a1.settled; cells = a1.cells; listed = refl } })
+            which : (t : Bool) → nat_le (i + n) m ≡ t → Follows set program (Gives b s.active (k + 1)) w.targets h s m0 (state.test t (state.give (state.a_spot (state.within v l (min (o + i) l) n))) (state.fault_at fault.PlaceOutsideString at) s)
+            which true q = follows_on set program (Gives b s.active (k + 1)) w.targets h s m0 (mach b h s (k + 1) (machine.a_spot (machine.within x l' (min (o' + i) l') n))) (state.a_spot (state.within v l (min (o + i) l) n)) (one_row set program m0 (mach b h s (k + 1) (machine.a_spot (machine.within x l' (min (o' + i) l') n))) _ e (row true q)) (record { held = machine.a_spot (machine.within x l' (min (o' + i) l') n); holds = (hs.0, hs.1, ap (λ z. min (z + i) l) hs.2 ∙ ap (λ z. min (o' + i) z) hs.1, refl); reached = record { is = refl; settled = a1.settled; cells = a1.cells; listed = refl } })
             which false q = fault_here set program (Gives b s.active (k + 1)) w.targets h s m0 (record { at = at; does = instr.Part m n }) fault.PlaceOutsideString b k (machine.a_value (value.Integer (pos i))) e (row false q) a1.listed a1.settled
         places at w b h s k i (state.whole v) (machine.within x l' o' cnt') hs e a1 = absurd hs
         places at w b h s k i (state.within v l o cnt) (machine.whole x) hs e a1 = absurd hs

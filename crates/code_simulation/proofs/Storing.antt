@@ -1,5 +1,5 @@
 -- Rows that change a variable, what is printed, and how far the data are read.
-use Rattle.std.proofs.Common.{◌≡◌, ◌≢◌, ℕ, inl, ℤ, pos, negsuc, List, [], ◌∷◌, ◌++◌, length, map, Option, Some, None, refl, sym, ap, ◌∙◌, subst, arith}
+use Rattle.std.proofs.Common.{◌≡◌, ◌≢◌, ℕ, inl, ℤ, pos, negsuc, List, [], ◌∷◌, ◌++◌, length, take, map, Option, Some, None, refl, sym, ap, ◌∙◌, subst, arith}
 use Rattle.std.specs.Prelude.{slice_get, slice_set, nat_le, nat_eq, Bool, true, false, Result, Ok, Err}
 use Rattle.value_ops.specs.declared.places.Place.{Place}
 use Rattle.value_ops.specs.declared.faults.Fault.{Fault}
@@ -143,12 +143,12 @@ module _ (set : Setting) (program : Code) where
   store_then R ts b h s k held m c K f (state.whole n) (machine.within x i j y) v e d l st q g = absurd q
   store_then R ts b h s k held m c K f (state.within n i j y) (machine.whole x) v e d l st q g = absurd q
   store_then R ts b h s k held m c K f (state.within n i j y) (machine.within x i' j' y') v e d l st q g =
-      follows_assoc set program R ts h s m (state.string_in c.at v s) (λ text. state.◌>>=◌ (state.string_held c.at n i) (λ z. state.put_string c.at n (with_part z (pos j) y text))) f
-      (alike_then R ts b h s k held m c (λ text. (doing.characters i' x >>= λ z. doing.put_string x (with_part z (pos j') y' text)) >> K) (λ text s1. after (after (state.string_held c.at n i s1) (λ z. state.put_string c.at n (with_part z (pos j) y text))) f) (state.string_in c.at v s) (doing.string_of v (mach b h s k held)) e (d ∙ shape (doing.string_of v (mach b h s k held)) (λ text. doing.characters i' x >>= λ z. doing.put_string x (with_part z (pos j') y' text)) (λ z. K)) l st (string_alike c.at s (mach b h s k held) v)
-      (λ text d1. follows_assoc set program R ts h s m (state.string_held c.at n i s) (λ z. state.put_string c.at n (with_part z (pos j) y text)) f
-      (alike_then R ts b h s k held m c (λ z. doing.put_string x (with_part z (pos j') y' text) >> K) (λ z s1. after (state.put_string c.at n (with_part z (pos j) y text) s1) f) (state.string_held c.at n i s) (doing.characters i x (mach b h s k held)) e
-      (d1 ∙ shape (doing.characters i' x (mach b h s k held)) (λ z. doing.put_string x (with_part z (pos j') y' text)) (λ z. K) ∙ ap (λ o. doing.after (doing.characters o x (mach b h s k held)) (λ z. doing.put_string x (with_part z (pos j') y' text) >> K)) (sym q.1)) l st (characters_alike b h s k n i held c.at x q.0)
-      (λ z d2. strings (with_part z (pos j) y text) (d2 ∙ ap (λ o. (doing.put_string x (with_part z (pos o) y' text) >> K) (mach b h s k held)) (sym q.2) ∙ ap (λ o. (doing.put_string x (with_part z (pos j) o text) >> K) (mach b h s k held)) (sym q.3))))))
+      follows_assoc set program R ts h s m (state.string_in c.at v s) (λ text. state.◌>>=◌ (state.string_held c.at n i) (λ z. state.put_string c.at n (with_part z (pos j) y (take y text)))) f
+      (alike_then R ts b h s k held m c (λ text. (doing.characters i' x >>= λ z. doing.put_string x (with_part z (pos j') y' (take y' text))) >> K) (λ text s1. after (after (state.string_held c.at n i s1) (λ z. state.put_string c.at n (with_part z (pos j) y (take y text)))) f) (state.string_in c.at v s) (doing.string_of v (mach b h s k held)) e (d ∙ shape (doing.string_of v (mach b h s k held)) (λ text. doing.characters i' x >>= λ z. doing.put_string x (with_part z (pos j') y' (take y' text))) (λ z. K)) l st (string_alike c.at s (mach b h s k held) v)
+      (λ text d1. follows_assoc set program R ts h s m (state.string_held c.at n i s) (λ z. state.put_string c.at n (with_part z (pos j) y (take y text))) f
+      (alike_then R ts b h s k held m c (λ z. doing.put_string x (with_part z (pos j') y' (take y' text)) >> K) (λ z s1. after (state.put_string c.at n (with_part z (pos j) y (take y text)) s1) f) (state.string_held c.at n i s) (doing.characters i x (mach b h s k held)) e
+      (d1 ∙ shape (doing.characters i' x (mach b h s k held)) (λ z. doing.put_string x (with_part z (pos j') y' (take y' text))) (λ z. K) ∙ ap (λ o. doing.after (doing.characters o x (mach b h s k held)) (λ z. doing.put_string x (with_part z (pos j') y' (take y' text)) >> K)) (sym q.1)) l st (characters_alike b h s k n i held c.at x q.0)
+      (λ z d2. strings (with_part z (pos j) y (take y text)) (d2 ∙ ap (λ o. (doing.put_string x (with_part z (pos o) y' (take y' text)) >> K) (mach b h s k held)) (sym q.2) ∙ ap (λ o. (doing.put_string x (with_part z (pos j) o (take o text)) >> K) (mach b h s k held)) (sym q.3))))))
     where
       strings : (r : Result (List ℕ) Fault) → does set program c.at c.does m ≡ (doing.put_string x r >> K) (mach b h s k held) → Follows set program R ts h s m (after (state.put_string c.at n r s) f)
       strings (Ok text) d2 = put_then R ts b h s k n held m c K f x (value.Str text) d2 st q.0 g

@@ -1,5 +1,5 @@
 -- A tree without faults begins what it counts.
-use Rattle.std.proofs.Common.{◌≡◌, ℕ, List, [], ◌∷◌, ◌++◌, refl, sym, subst}
+use Rattle.std.proofs.Common.{◌≡◌, ℕ, ◌+◌, List, [], ◌∷◌, ◌++◌, refl, sym, subst}
 use Rattle.std.specs.Prelude.{Option, Some, None, Bool, true, false, ⊤}
 use Rattle.value_ops.specs.declared.places.Place.{Place}
 use Rattle.algolw_tree.specs.Tree as tree
@@ -16,8 +16,9 @@ use Rattle.algolw_typing.specs.Known.{Knows, KnowsKind, KnowsNodes, KnowsLinks, 
 use Rattle.algolw_typing.proofs.GoodScopes.{NoFaults, none_first, none_second, none_two, none_three, none_four}
 use Rattle.algolw_typing.proofs.GoodBlocks.{scope_of}
 use Rattle.program_meaning.specs.Translating as translating
-use Rattle.program_soundness.specs.Kinds.{Context}
-use Rattle.program_soundness.specs.Tables.{Info, infos, nodes_infos, links_infos, lists_infos, actuals_infos, items_infos, bounds_infos, decls_infos, inner_infos, decls_info, labels_info, formals_info, control_info}
+use Rattle.program_meaning.specs.Translating.{Declared, count, field_types}
+use Rattle.program_soundness.specs.Kinds.{Context, Meaning}
+use Rattle.program_soundness.specs.Tables.{Info, each_info, group_info, fields_info, infos, nodes_infos, links_infos, lists_infos, actuals_infos, items_infos, bounds_infos, decls_infos, inner_infos, decls_info, labels_info, formals_info, control_info}
 use Rattle.faultless_programs.specs.Filled.{IsFilled, AreFilled, ListsAreFilled, ActualsAreFilled, LinksAreFilled, ItemsAreFilled, BoundsAreFilled, DeclsAreFilled, DeclIsFilled}
 use Rattle.faultless_programs.proofs.Agreeing.{AllAgree, agree_two}
 use Rattle.faultless_programs.proofs.Round.{Told, Round}
@@ -26,6 +27,7 @@ use Rattle.faultless_programs.proofs.Entering.{round_block, round_bounds, round_
 use Rattle.faultless_programs.proofs.Trees.{phrase_fits, uncounted_agree}
 use Rattle.faultless_programs.proofs.Calls.{given_infos}
 use Rattle.compilable_programs.specs.Begun.{standard_procedures, Begun, AllBegun, LinksBegun, ListsBegun, ActualsBegun, ItemsBegun, BoundsBegun, DeclsBegun, DeclBegun}
+use Rattle.compilable_programs.proofs.Classes.{Held, held_at}
 use Rattle.compilable_programs.proofs.Standards.{is, counted_statement, not_if, array_elsewhere, procedure_elsewhere, formal_elsewhere, name_counted}
 
 -- ---- names alone
@@ -76,7 +78,7 @@ small_read (formal_wanted f) m v i = small_formal f m v i
 small_read none_wanted m v i = small_extra m v i
 small_read any_wanted m v i = small_later m v i
 
-module _ (more : List Info) (names classes : List Place) where
+module _ (more : List Info) (names classes : List Place) (held : Held classes (is more)) where
   abbrev pub all : List Info
   all = is more
 
@@ -185,6 +187,35 @@ module _ (more : List Info) (names classes : List Place) where
   begun_given (tree.At p f (tree.Named x (tree.list_and (tree.OfActuals q list) (tree.list_and m ms)))) path c d r w k l = k
   begun_given (tree.At p f (tree.Named x (tree.list_and (tree.OfPart q b n) ls))) path c d r w k l = k
   begun_given (tree.At p f _) path c d r w k l = k
+
+  -- ---- declared classes
+
+  abbrev DeclFound : typed.Decl → Type 0
+  DeclFound (typed.Class x groups) = has classes x.0 ≡ true
+  DeclFound d = ⊤
+
+  abbrev DeclsFound : typed.Decls → Type 0
+  DeclsFound typed.no_decls = ⊤
+  DeclsFound (typed.decl_and d rest) = DeclFound d × DeclsFound rest
+
+  each_behind : (d : Declared) (o : Option Meaning) (xs : List typed.Placed) (js : List Info) → AllAgree all (each_info d o xs js) → AllAgree all js
+  each_behind d o [] js h = h
+  each_behind d o (x ∷ xs) js h = each_behind d o xs js h.1
+
+  group_behind : (class : Place) (n : ℕ) (t : ValueType) (xs : List typed.Placed) (js : List Info) → AllAgree all (group_info class n t xs js) → AllAgree all js
+  group_behind class n t [] js h = h
+  group_behind class n t (x ∷ xs) js h = group_behind class (n + 1) t xs js h.1
+
+  fields_behind : (class : Place) (n : ℕ) (groups : List typed.Group) (js : List Info) → AllAgree all (fields_info class n groups js) → AllAgree all js
+  fields_behind class n [] js h = h
+  fields_behind class n (g ∷ groups) js h = fields_behind class (n + count g.names) groups js (group_behind class n g.type g.names (fields_info class (n + count g.names) groups js) h)
+
+  decls_found : (ds : typed.Decls) → AllAgree all (decls_info ds) → DeclsFound ds
+  decls_found typed.no_decls h = tt
+  decls_found (typed.decl_and (typed.Simple t xs) rest) h = (tt, decls_found rest (each_behind _ _ xs (decls_info rest) h))
+  decls_found (typed.decl_and (typed.Array t xs pairs) rest) h = (tt, decls_found rest (each_behind _ _ xs (decls_info rest) h))
+  decls_found (typed.decl_and (typed.Proc p result x formals body) rest) h = (tt, decls_found rest h.1)
+  decls_found (typed.decl_and (typed.Class x groups) rest) h = (held_at classes all x.0 (field_types groups) held h.0.0, decls_found rest (fields_behind x.0 0 groups (decls_info rest) h.1))
 
   -- ---- trees
 
@@ -324,7 +355,7 @@ module _ (more : List Info) (names classes : List Place) where
         let b3 = agree_two all (decls_infos ds.decls) (items_infos its.items) b2.1 in
         let q = round_block all path decls items r m.1 b.0 b2.0 in
         let z = round_bounds all path ds.decls r b.0 in
-        (begun_decls decls path inner _ d _ z q i.0 b3.0 m.1 n.0, begun_items items inner _ _ q (Good Statement) i.1 b3.1 m.2 n.1)
+        (begun_decls decls path inner _ d _ z q i.0 b3.0 m.1 n.0 (decls_found ds.decls b.0), begun_items items inner _ _ q (Good Statement) i.1 b3.1 m.2 n.1)
 
     begun_phrases : (ps : tree.Phrases) (path : Scopes) (c : translating.Context) (d : Context) → Round all path c d → AreFilled ps → AllAgree all (nodes_infos (typed_phrases path ps).nodes) → NoFaults (typed_phrases path ps).inside → KnowsNodes names classes (typed_phrases path ps).nodes
         → AllBegun classes (typed_phrases path ps).nodes
@@ -424,20 +455,20 @@ module _ (more : List Info) (names classes : List Place) where
         let s = agree_two all (infos u.node) (bounds_infos (typed_bounds path rest).bounds) b.1 in
         (begun_phrase x path c d r i.0 b.0 m.0 (bare o.node n.0), begun_phrase y path c d r i.1 s.0 m.1 (bare u.node n.1), begun_bounds rest path c d r i.2 s.1 m.3 n.2)
 
-    begun_decls : (ds : tree.Decls) (around inner : Scopes) (c : translating.Context) (d d' : Context) → Round all around c d → Round all inner c d' → DeclsAreFilled ds → AllAgree all (decls_infos (typed_decls around inner ds).decls) → NoFaults (typed_decls around inner ds).inside → KnowsDecls names classes (typed_decls around inner ds).decls
+    begun_decls : (ds : tree.Decls) (around inner : Scopes) (c : translating.Context) (d d' : Context) → Round all around c d → Round all inner c d' → DeclsAreFilled ds → AllAgree all (decls_infos (typed_decls around inner ds).decls) → NoFaults (typed_decls around inner ds).inside → KnowsDecls names classes (typed_decls around inner ds).decls → DeclsFound (typed_decls around inner ds).decls
         → DeclsBegun classes (typed_decls around inner ds).decls
-    begun_decls tree.no_decls around inner c d d' m r i a h n = tt
-    begun_decls (tree.decl_and e rest) around inner c d d' m r i a h n =
+    begun_decls tree.no_decls around inner c d d' m r i a h n f = tt
+    begun_decls (tree.decl_and e rest) around inner c d d' m r i a h n f =
         let k = none_two (typed_decl around inner e).inside (typed_decls around inner rest).inside h in
         let b = agree_two all (inner_infos (typed_decl around inner e).decl) (decls_infos (typed_decls around inner rest).decls) a in
-        (begun_decl e around inner c d d' m r i.0 b.0 k.0 n.0, begun_decls rest around inner c d d' m r i.1 b.1 k.1 n.1)
+        (begun_decl e around inner c d d' m r i.0 b.0 k.0 n.0 f.0, begun_decls rest around inner c d d' m r i.1 b.1 k.1 n.1 f.1)
 
-    begun_decl : (e : tree.Decl) (around inner : Scopes) (c : translating.Context) (d d' : Context) → Round all around c d → Round all inner c d' → DeclIsFilled e → AllAgree all (inner_infos (typed_decl around inner e).decl) → NoFaults (typed_decl around inner e).inside → KnowsDecl names classes (typed_decl around inner e).decl
+    begun_decl : (e : tree.Decl) (around inner : Scopes) (c : translating.Context) (d d' : Context) → Round all around c d → Round all inner c d' → DeclIsFilled e → AllAgree all (inner_infos (typed_decl around inner e).decl) → NoFaults (typed_decl around inner e).inside → KnowsDecl names classes (typed_decl around inner e).decl → DeclFound (typed_decl around inner e).decl
         → DeclBegun classes (typed_decl around inner e).decl
-    begun_decl (tree.Simple spec xs) around inner c d d' m r i a h n = tt
-    begun_decl (tree.Array spec xs pairs) around inner c d d' m r i a h n = begun_bounds pairs around c d m i a (none_second (array_faults inner spec xs (bound_count pairs)) (typed_bounds around pairs).inside h) n.2
-    begun_decl (tree.Class cl) around inner c d d' m r i a h n = tt
-    begun_decl (tree.Proc p result x formals body) around inner c d d' m r i a h n =
+    begun_decl (tree.Simple spec xs) around inner c d d' m r i a h n f = tt
+    begun_decl (tree.Array spec xs pairs) around inner c d d' m r i a h n f = begun_bounds pairs around c d m i a (none_second (array_faults inner spec xs (bound_count pairs)) (typed_bounds around pairs).inside h) n.2
+    begun_decl (tree.Class cl) around inner c d d' m r i a h n f = f
+    begun_decl (tree.Proc p result x formals body) around inner c d d' m r i a h n f =
         let within = formal_scope inner formals ∷ inner in
         let o = typed_phrase within body in
         let types = result_faults inner result ++ formal_faults inner formals in

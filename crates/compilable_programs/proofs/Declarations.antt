@@ -129,7 +129,7 @@ module _ (m : Place → ℕ) where
         placed_both f.names (formal_names fs),
       )
 
-  uncounted_infos : (n : typed.Node) → infos (uncounted n) ≡ infos n
+  pub uncounted_infos : (n : typed.Node) → infos (uncounted n) ≡ infos n
   uncounted_infos (typed.At p f g s (typed.Assign a b)) = refl
   uncounted_infos (typed.At p f g s k) = refl
 

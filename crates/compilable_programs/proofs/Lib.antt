@@ -2,8 +2,12 @@ pub mod Contexts
 pub mod Unmoved
 pub mod Binders
 pub mod Suiting
+pub mod AvoidedSizes
+pub mod Avoiding
+pub mod AvoidedSuits
 pub mod Standards
-pub mod Beginning
 pub mod Declarations
 pub mod Ordered
+pub mod Classes
+pub mod Beginning
 pub mod Programs

@@ -37,7 +37,7 @@ module _ {A : Type 0} (place : A → Place) (m : Place → ℕ) where
 abbrev pub AtMostOnce : List Place → Type 0
 AtMostOnce places = (p : Place) → weight (at p) places ≤ 1
 
-itself_weighs : (p : Place) → at p p ≡ 1
+pub itself_weighs : (p : Place) → at p p ≡ 1
 itself_weighs p = ap one_if (same_place p)
 
 item_weighs : (places : List Place) (k : ℕ) → k < length places → 1 ≤ weight (at (numbered places k)) places
@@ -68,6 +68,13 @@ no_weight p (q ∷ ps) h = go (is_place q p) (no_weight p ps) h
     go : (b : Bool) → (has ps p ≡ false → weight (at p) ps ≡ 0) → (b || has ps p) ≡ false → one_if b + weight (at p) ps ≡ 0
     go true f h = absurd (cc h)
     go false f h = omega (arith, f h)
+
+had_case : (p : Place) (ps : List Place) (b : Bool) → has ps p ≡ b → 1 ≤ weight (at p) ps → has ps p ≡ true
+had_case p ps true e h = e
+had_case p ps false e h = absurd (omega (arith, h, no_weight p ps e))
+
+pub weighs_had : (p : Place) (ps : List Place) → 1 ≤ weight (at p) ps → has ps p ≡ true
+weighs_had p ps h = had_case p ps (has ps p) refl h
 
 not_is : (b : Bool) → not b ≡ true → b ≡ false
 not_is true e = cc

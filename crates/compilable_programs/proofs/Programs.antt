@@ -32,6 +32,7 @@ use Rattle.compilable_programs.proofs.Binders.{weight, infos_weight, infos_both,
 use Rattle.compilable_programs.proofs.Declarations.{names_weight, classes_weight, names_both, weighs}
 use Rattle.compilable_programs.proofs.Ordered.{ordered_weighs, AtMostOnce, once_apart, apart_weighs, nowhere_weighs, name_there, text_found, all_on_cards, put_in_front}
 use Rattle.compilable_programs.proofs.Suiting.{at, none_has, suits}
+use Rattle.compilable_programs.proofs.Classes.{program_held}
 use Rattle.compilable_programs.proofs.Beginning.{begun_phrase, bare}
 
 -- ---- what names and classes weigh
@@ -149,8 +150,8 @@ program_begun x e i =
     let all = all_infos (program_of x).root in
     let a = agree_two all (standard_infos (standard_known standard_scope)) (infos o.node) (apart_agree all i.apart) in
     let c : translating.Context = record { names = (program_of x).names; known = standard_known standard_scope } in
-    begun_phrase (infos o.node) (name_places (program_of x)) (class_places (program_of x)) x (standard_scope ∷ []) c [] (round_program all (program_of x).names a.0) i.filled a.1 (none_first (faults o) (fault_of (program_verdict x o)) none)
-    (bare (infos o.node) (name_places (program_of x)) (class_places (program_of x)) o.node (nothing_is_unknown.tree x e))
+    begun_phrase (infos o.node) (name_places (program_of x)) (class_places (program_of x)) (program_held x) x (standard_scope ∷ []) c [] (round_program all (program_of x).names a.0) i.filled a.1 (none_first (faults o) (fault_of (program_verdict x o)) none)
+    (bare (infos o.node) (name_places (program_of x)) (class_places (program_of x)) (program_held x) o.node (nothing_is_unknown.tree x e))
 
 -- ---- programs
 
@@ -164,6 +165,7 @@ programs_without_faults_are_compilable x p e i placed h = record {
   classes_apart = once_apart (class_places (program_of x)) (classes_once x i);
   classes_named = λ k d within. class_named (program_of x).names (get_or (program_of x).classes k d) (names_once x i) (nothing_is_unknown.classes x k d within);
   knows = nothing_is_unknown.tree x e;
+  once = i.apart;
   begun = program_begun x e i;
   suits = program_suits x e i;
 }

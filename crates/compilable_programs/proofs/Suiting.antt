@@ -3,7 +3,7 @@ use Rattle.std.proofs.Common.{◌≡◌, ℕ, ◌+◌, ◌≤◌, List, [], ◌�
 use Rattle.std.proofs.lemmas.Bool.{and_parts, eqb-true}
 use Rattle.std.specs.Prelude.{Option, Some, Bool, true, false, ◌||◌, nat_eq}
 use Rattle.value_ops.specs.declared.places.Place.{Place}
-use Rattle.algolw_typing.specs.Types.{ValueType, Gives, Statement, is_place, has}
+use Rattle.algolw_typing.specs.Types.{ValueType, Gives, Simple, Statement, is_place, has}
 use Rattle.algolw_typing.specs.Verdicts.{Verdict, Good, Fault, Silent}
 use Rattle.algolw_typing.specs.Meanings.{FormalType, by_name, by_value, by_result, by_value_result, for_array, for_procedure}
 use Rattle.algolw_typing.specs.Actuals.{table_a, actuals_fit}
@@ -69,7 +69,8 @@ given_passed : (c : Context) (w : Place) (f : FormalType) (a : Actual) (v : Verd
 given_passed c w (for_array t n) (Given b y first a) v g e = absurd (cc e)
 given_passed c w (by_name t) (Given b y first a) v g e = tt
 given_passed c w (by_value t) (Given b y first a) v g e = tt
-given_passed c w (by_result t) (Given b y first a) v g e = tt
+given_passed c w (by_result t) (Given b Statement first a) v g e = absurd (cc e)
+given_passed c w (by_result t) (Given b (Simple u) first a) v g e = tt
 given_passed c w (by_value_result t) (Given b y first a) v g e = tt
 given_passed c w (for_procedure result) (Given b y first a) v g e = tt
 given_passed c w f (Alone p a) v g e = tt

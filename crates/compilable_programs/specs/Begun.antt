@@ -1,4 +1,5 @@
--- That each phrase that counts a step when it is begun is a statement, and that what follows IS is a record class.
+-- That each phrase that counts a step when it is begun is a statement, and that each record class that is declared or follows IS is one of the
+-- program's.
 use Rattle.std.specs.Prelude.{◌≡◌, ⊤, ℕ, List, [], ◌∷◌, Option, Some, None, Bool, true, false}
 use Rattle.value_ops.specs.declared.places.Place.{Place}
 use Rattle.algolw_typing.specs.Types.{has}
@@ -82,4 +83,5 @@ module _ (classes : List Place) where
     pub DeclBegun : typed.Decl → Type 0
     DeclBegun (typed.Array t xs bounds) = BoundsBegun bounds
     DeclBegun (typed.Proc p result x formals body) = Begun body
+    DeclBegun (typed.Class x groups) = has classes x.0 ≡ true
     DeclBegun d = ⊤

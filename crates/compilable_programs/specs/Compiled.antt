@@ -9,6 +9,7 @@ use Rattle.algolw_typing.specs.Naming.{Class}
 use Rattle.algolw_typing.specs.ProgramView.{HoldsProgram, numbered, nowhere}
 use Rattle.algolw_typing.specs.Programs.{TypedProgram}
 use Rattle.program_meaning.specs.Translating.{text_at, program_phrase}
+use Rattle.program_soundness.specs.Tables.{all_infos, are_apart}
 use Rattle.compilable_programs.specs.Begun.{Begun, standard_place}
 use Rattle.compilable_programs.specs.Suits.{Suits}
 
@@ -26,8 +27,8 @@ standard_places = map standard_place (1 ∷ 2 ∷ 3 ∷ 4 ∷ 5 ∷ 6 ∷ 7 ∷ 
 abbrev pub AreApart : List Place → Type 0
 AreApart places = (n k : ℕ) → n < length places → k < length places → numbered places n ≡ numbered places k → n ≡ k
 
--- Its names stand apart, those of every deck first; its classes are names; its tree has no names and classes but these, begins what it counts,
--- and is one that suits.
+-- Its names stand apart, those of every deck first; its classes are names; its tree has no names and classes but these, declares each once, begins
+-- what it counts, and is one that suits.
 pub record IsCompilable (p : Program) (x : TypedProgram) : Type 0 where
   pub holds : HoldsProgram p x
   pub apart : AreApart (name_places x)
@@ -37,5 +38,6 @@ pub record IsCompilable (p : Program) (x : TypedProgram) : Type 0 where
   pub classes_apart : AreApart (class_places x)
   pub classes_named : All (λ (c : Class). (has (name_places x) c.place ≡ true) × (text_at x.names c.place ≡ c.name)) x.classes
   pub knows : Knows (name_places x) (class_places x) x.root
+  pub once : are_apart (all_infos x.root) ≡ true
   pub begun : Begun (class_places x) x.root
   pub suits : Suits [] (program_phrase x)

@@ -1,9 +1,9 @@
--- What coding asks of a phrase: a call in line has an actual for each formal, no typed one stands for an array, and bounds have no name of
--- their own block.
+-- What coding asks of a phrase: a call in line has an actual for each formal, no typed one stands for an array, a RESULT one gives a value, and
+-- bounds have no name of their own block.
 use Rattle.std.specs.Prelude.{◌≡◌, ⊤, List, [], ◌∷◌, ◌++◌, true, false}
 use Rattle.value_ops.specs.declared.places.Place.{Place}
-use Rattle.algolw_typing.specs.Types.{has}
-use Rattle.algolw_typing.specs.Meanings.{FormalType, for_array}
+use Rattle.algolw_typing.specs.Types.{Gives, Statement, has}
+use Rattle.algolw_typing.specs.Meanings.{FormalType, by_result, for_array}
 use Rattle.program_meaning.specs.Phrases.{Phrase, Named, Unary, Binary, Relation, IsClass, Element, Field, Part, Record, IfThen, Case, Block, Call, Assign, WhileDo, ForStep, ForList, Assert, Write, Read, ReadCard, IoControl, Phrases, no_phrases, phrase_and, Targets, no_targets, target_and, Subscripts, no_subscripts, star_and, subscript_and, Actuals, no_actuals, actual_and, Actual, Given, Alone, Subarray, Items, no_items, item_and, Bounds, no_bounds, bound_and, Decls, no_decls, variables_and, arrays_and, procedure_and, Formal, decl_places, label_places, with}
 use Rattle.phrase_code.specs.Sizes.{Known, CallKind, in_line, through, stuck_call, call_kind, head_kind, block_known, formals_known, control_known}
 
@@ -25,12 +25,14 @@ DeclsAvoid places (procedure_and x result formals body rest) = DeclsAvoid places
 
 -- ---- calls
 
-abbrev pub IsNoArray : FormalType → Type 0
-IsNoArray (for_array t n) = ⊥
-IsNoArray f = ⊤
+-- it stands for no array, and only what gives a value is assigned back to
+abbrev pub IsGiven : FormalType → Gives → Type 0
+IsGiven (for_array t n) g = ⊥
+IsGiven (by_result t) Statement = ⊥
+IsGiven f g = ⊤
 
 abbrev pub IsPassed : Actual → FormalType → Type 0
-IsPassed (Given v g first a) f = IsNoArray f
+IsPassed (Given v g first a) f = IsGiven f g
 IsPassed a f = ⊤
 
 abbrev pub ArePassed : Actuals → List Formal → Type 0

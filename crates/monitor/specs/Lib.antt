@@ -1,2 +1,4 @@
+pub mod Made
+pub mod Orders
 pub mod Outcome
 pub mod Status

@@ -1,5 +1,5 @@
 -- Why a run stopped, and the number that it ends with.
-use Rattle.std.specs.Prelude.{ℕ}
+use Rattle.std.specs.Prelude.{ℕ, Result, Ok, Err}
 use Rattle.deck_reader.specs.declared.reader.FeedError.{FeedError}
 use Rattle.deck_reader.specs.declared.reader.FeedError.TheVariants as feed
 use Rattle.monitor.specs.declared.stop.Stop.{Stop}
@@ -16,6 +16,11 @@ status_of stop.NoMemory = status.NoMemory
 status_of stop.ReadFault = status.ReadFault
 status_of stop.WriteFault = status.WriteFault
 status_of stop.TooLarge = status.TooLarge
+
+-- how a run ended
+abbrev pub status_after : {T : Type 0} → Result T Stop → Status
+status_after (Ok x) = status.Done
+status_after (Err stop) = status_of stop
 
 -- the number with which the program ends
 abbrev pub number_of : Status → ℕ

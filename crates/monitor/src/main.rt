@@ -2,6 +2,7 @@
 #![tactic(auto)]
 
 mod listing;
+mod made;
 mod reading;
 mod stop;
 #[cfg(test)]

@@ -421,12 +421,54 @@ fn each_write_may_fail(rt: HostRuntime) -> Result<(), Fail> {
     Ok(())
 }
 
+/// Lists of words, parted by blanks, and the status that each ends with on a batch that fits.
+const WORDS: &str = "--help;--workers 0;--queue 3 --queue 3;--make 7;--jobs 1";
+
 #[test]
 fn words_are_refused(rt: HostRuntime) -> Result<(), Fail> {
-    let words = vec![in rt.alloc(); String::from_str(rt.alloc(), "--help")?]?;
-    let (status, written) = run(rt.alloc(), words.as_slice(), SUM, &AMPLE)?;
-    assert_eq!(rt; status, Status::BadWords);
-    assert_eq!(rt; written.len(), 0);
+    for list in WORDS.split(';') {
+        let (status, written) = run(
+            rt.alloc(),
+            words_of(rt.alloc(), list)?.as_slice(),
+            SUM,
+            &AMPLE,
+        )?;
+        assert_eq!(rt; status, Status::BadWords, "{list}");
+        assert!(rt; written.is_empty(), "{list}");
+    }
+    Ok(())
+}
+
+/// The words of a list, which blanks part.
+fn words_of(alloc: Global, list: &str) -> Result<Vec<String>, AllocError> {
+    let mut words = Vec::new(alloc);
+    for word in list.split(' ') {
+        words.push(String::from_str(alloc, word)?)?;
+    }
+    Ok(words)
+}
+
+const MADE: &[u8] = b"MADE 7 JOBS 1
+NORMAL 0
+FAULT 0
+LIMIT 0
+DIAGNOSED 1
+REFUSED 0
+CHARGES 2
+LISTING BYTES 334
+";
+
+/// The source isn't read: it would fail.
+#[test]
+fn a_made_batch_has_its_summary(rt: HostRuntime) -> Result<(), Fail> {
+    let outside = Outside {
+        failing_read: Some(1),
+        ..AMPLE
+    };
+    let words = words_of(rt.alloc(), "--make 7 --jobs=1")?;
+    let (status, written) = run(rt.alloc(), words.as_slice(), SUM, &outside)?;
+    assert_eq!(rt; status, Status::Done);
+    assert_eq!(rt; written.as_slice(), MADE);
     Ok(())
 }
 

@@ -1,13 +1,16 @@
-ghost use Rattle.std.specs.Prelude.{◌≡◌, ◌<◌, ◌↔◌, ◌⊎◌, IfSome, OnOk, OnErr, IsErrOf, IsOk, false, true, length};
+ghost use Rattle.std.specs.Prelude.{◌≡◌, ◌⊎◌, ℕ, IfSome, OnOk, OnErr, IsErrOf, false, map, string_bytes, true};
 ghost use Rattle.batch_io.specs.Causes.{Rose};
 ghost use Rattle.deck_reader.specs.Batch.{too_large};
-ghost use Rattle.monitor.specs.Outcome.{IsDone, IsCutShort, IsTooLarge};
-ghost use Rattle.monitor.specs.Status.{number_of};
+ghost use Rattle.monitor.specs.Orders.{SaysMake, SaysNothing, SaysRun};
+ghost use Rattle.monitor.specs.Outcome.{IsDone, IsCutShort, IsMade, IsTooLarge};
+ghost use Rattle.monitor.specs.Status.{number_of, status_after};
 
 use crate::listing::write_listing;
+use crate::made::run_made;
 use crate::reading::read_all;
 use crate::stop::Stop;
 use batch_io::{Gate, Sink, Source};
+use command_words::{Order, WordsError, read_words};
 use std::alloc::Global;
 
 /// How a run ended.
@@ -59,8 +62,8 @@ impl From<Stop> for Status {
     }
 }
 
-/// Runs the monitor on a list of command words: reads a batch, runs its jobs and writes the listing. The list of
-/// words is of the form where it is empty.
+/// Does what the command words say: reads a batch, runs its jobs and writes the listing; or makes a batch, runs its jobs
+/// and writes the summary of its listing. The numbers of workers and of the queue's places have no effect.
 pub fn run_monitor<S: Source, K: Sink, G: Gate>(
     alloc: Global,
     words: &[String],
@@ -68,14 +71,16 @@ pub fn run_monitor<S: Source, K: Sink, G: Gate>(
     sink: &mut K,
     _gate: &G,
 ) -> Status
-    // Words are refused exactly where there are some, and then nothing is read or written.
-    ensures words { (result ≡ Status.BadWords) ↔ (0 < length words.now) }
-    ensures untouched { 0 < length words.now → (src.new ≡ src.old) × (sink.new ≡ sink.old) }
+    // Words that say nothing are refused, and no others are; then nothing is read or written.
+    ensures bad { result ≡ Status.BadWords → SaysNothing (map string_bytes words.now) }
+    ensures words { SaysNothing (map string_bytes words.now)
+        → (result ≡ Status.BadWords) ⊎ (result ≡ Status.NoMemory) }
+    ensures untouched { SaysNothing (map string_bytes words.now) → (src.new ≡ src.old) × (sink.new ≡ sink.old) }
 
     // What was written is the listing of the batch, or on any other answer a prefix of the listing of what was read.
-    ensures done { result ≡ Status.Done
+    ensures done { SaysRun (map string_bytes words.now) → result ≡ Status.Done
         → IsDone (S.left src.old) (S.left src.new) (K.written sink.old) (K.written sink.new) }
-    ensures cut { length words.now ≡ 0 → (result ≡ Status.Done → ⊥)
+    ensures cut { SaysRun (map string_bytes words.now) → (result ≡ Status.Done → ⊥)
         → IsCutShort (S.left src.old) (S.left src.new) (K.written sink.old) (K.written sink.new) }
 
     // Each answer has its cause, and no fault is passed over.
@@ -86,19 +91,33 @@ pub fn run_monitor<S: Source, K: Sink, G: Gate>(
     ensures large { result ≡ Status.TooLarge → IsTooLarge (S.left src.old) (S.left src.new) }
 
     // A batch that fits is run to the end, and one that doesn't is refused, unless a read, a write or memory fails.
-    ensures complete { length words.now ≡ 0 → IfSome (S.left src.old) (λ b. too_large b ≡ false
+    ensures complete { SaysRun (map string_bytes words.now) → IfSome (S.left src.old) (λ b. too_large b ≡ false
         → (Rose (S.faults src.old) (S.faults src.new) → ⊥)
         → (Rose (K.faults sink.old) (K.faults sink.new) → ⊥)
         → (result ≡ Status.Done) ⊎ (result ≡ Status.NoMemory)) }
-    ensures refused { length words.now ≡ 0 → IfSome (S.left src.old) (λ b. too_large b ≡ true
+    ensures refused { SaysRun (map string_bytes words.now) → IfSome (S.left src.old) (λ b. too_large b ≡ true
         → (Rose (S.faults src.old) (S.faults src.new) → ⊥)
         → (Rose (K.faults sink.old) (K.faults sink.new) → ⊥)
         → (result ≡ Status.TooLarge) ⊎ (result ≡ Status.NoMemory)) }
+
+    // A batch that is made leaves the source as it was. What was written is the summary of the batch's listing, or a
+    // prefix of it where memory was wanting or a write failed.
+    ensures made { (seed jobs : ℕ) → SaysMake (map string_bytes words.now) seed jobs
+        → IsMade seed jobs (K.written sink.old) (K.written sink.new) result × (src.new ≡ src.old) }
 {
-    if !words.is_empty() {
-        return Status::BadWords;
+    match read_words(alloc, words) {
+        Ok(Order::Run { .. }) => status_after(run_batch(alloc, src, sink)),
+        Ok(Order::Make { seed, jobs, .. }) => status_after(run_made(alloc, sink, seed, jobs)),
+        Err(WordsError::BadWords) => Status::BadWords,
+        Err(WordsError::NoMemory) => Status::NoMemory,
     }
-    match run_batch(alloc, src, sink) {
+}
+
+/// How a run ended that ended so.
+fn status_after(ended: Result<(), Stop>) -> Status
+    ensures { result ≡ status_after ended }
+{
+    match ended {
         Ok(()) => Status::Done,
         Err(stop) => Status::from(stop),
     }

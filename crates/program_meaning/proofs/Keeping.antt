@@ -1,5 +1,5 @@
 -- What changes neither counts nor cells, depth and entries.
-use Rattle.std.proofs.Common.{◌≡◌, ◌≢◌, ℕ, ◌+◌, ℤ, pos, negsuc, List, [], ◌∷◌, length, refl, ◌∙◌}
+use Rattle.std.proofs.Common.{◌≡◌, ◌≢◌, ℕ, ◌+◌, ℤ, pos, negsuc, List, [], ◌∷◌, length, take, refl, ◌∙◌}
 use Rattle.std.specs.Prelude.{Option, Some, None, Bool, true, false, nat_lt, nat_le, nat_eq, slice_get, replicate, Ok, Err}
 use Rattle.std.specs.Prelude as std
 use Rattle.value_ops.specs.declared.places.Place.{Place}
@@ -216,7 +216,7 @@ keeps_put_string w k (Err f) = keeps_fault f w
 
 pub keeps_store : (w : Place) (spot : Spot) (v : Value) → Keeps (store w spot v)
 keeps_store w (whole k) v = keeps_put k v
-keeps_store w (within k m from n) v = keeps_bind (keeps_string_in w v) (λ text. keeps_bind (keeps_string_held w k m) (λ s. keeps_put_string w k (with_part s (pos from) n text)))
+keeps_store w (within k m from n) v = keeps_bind (keeps_string_in w v) (λ text. keeps_bind (keeps_string_held w k m) (λ s. keeps_put_string w k (with_part s (pos from) n (take n text))))
 
 pub keeps_assign : (w : Place) (t : ValueType) (spot : Spot) (v : Value) → Keeps (assign w t spot v)
 keeps_assign w t spot v = keeps_bind (keeps_made w t v) (λ u. keeps_store w spot u)

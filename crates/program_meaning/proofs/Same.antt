@@ -1,5 +1,5 @@
 -- The same computation over closed procedures and over procedures with environments.
-use Rattle.std.proofs.Common.{◌≡◌, ℕ, ◌+◌, ◌-◌, ℤ, pos, negsuc, List, [], ◌∷◌, length, refl, ap, ◌∙◌}
+use Rattle.std.proofs.Common.{◌≡◌, ℕ, ◌+◌, ◌-◌, ℤ, pos, negsuc, List, [], ◌∷◌, length, take, refl, ap, ◌∙◌}
 use Rattle.std.specs.Prelude.{Option, Some, None, Bool, true, false, nat_lt, nat_le, nat_eq, slice_get, Ok, Err}
 use Rattle.std.specs.Prelude as std
 use Rattle.value_ops.specs.declared.places.Place.{Place}
@@ -265,7 +265,7 @@ same_put_string w k (Err f) = same_fault i f w
 
 pub same_store : (w : Place) (spot : Spot) (v : Value) → Same i (store w spot v) (store w spot v)
 same_store w (whole k) v = same_put k v
-same_store w (within k m from n) v = same_bind _ (same_string_in w v) (λ text. same_bind _ (same_string_held w k m) (λ s. same_put_string w k (with_part s (pos from) n text)))
+same_store w (within k m from n) v = same_bind _ (same_string_in w v) (λ text. same_bind _ (same_string_held w k m) (λ s. same_put_string w k (with_part s (pos from) n (take n text))))
 
 pub same_assign : (w : Place) (t : ValueType) (spot : Spot) (v : Value) → Same i (assign w t spot v) (assign w t spot v)
 same_assign w t spot v = same_bind _ (same_made w t v) (λ u. same_store w spot u)

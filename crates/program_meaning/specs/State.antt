@@ -1,5 +1,5 @@
 -- The state of a program under way, and what may change it.
-use Rattle.std.specs.Prelude.{ℕ, ◌+◌, ◌-◌, ◌*◌, ℤ, pos, negsuc, ◌+ℤ◌, ◌-ℤ◌, int_le, List, [], ◌∷◌, ◌++◌, length, replicate, Option, Some, None, Bool, true, false, ◌&&◌, nat_lt, nat_le, slice_get, slice_set, Result, Ok, Err}
+use Rattle.std.specs.Prelude.{ℕ, ◌+◌, ◌-◌, ◌*◌, ℤ, pos, negsuc, ◌+ℤ◌, ◌-ℤ◌, int_le, List, [], ◌∷◌, ◌++◌, length, replicate, take, min, Option, Some, None, Bool, true, false, ◌&&◌, nat_lt, nat_le, slice_get, slice_set, Result, Ok, Err}
 use Rattle.value_ops.specs.declared.places.Place.{Place}
 use Rattle.value_ops.specs.declared.faults.Fault.{Fault}
 use Rattle.value_ops.specs.declared.faults.Fault.TheVariants as fault
@@ -328,7 +328,7 @@ put_string w k (Err f) = fault_at f w
 -- a value is given to a place
 abbrev pub store : {P : Type 0} → Place → Spot → Value → M P (Unit {0})
 store w (whole k) v = put k v
-store w (within k m from n) v = string_in w v >>= λ text. string_held w k m >>= λ s. put_string w k (with_part s (pos from) n text)
+store w (within k m from n) v = string_in w v >>= λ text. string_held w k m >>= λ s. put_string w k (with_part s (pos from) n (take n text))
 
 abbrev pub assign : {P : Type 0} → Place → ValueType → Spot → Value → M P (Unit {0})
 assign w t k v = made w t v >>= store w k
@@ -429,10 +429,10 @@ is_of_class w class (Some r) = the_record w r >>= λ info. give (a_value (value.
 
 -- ---- parts of strings
 
--- the place of n characters from i on, of a string of m: F4 where it doesn't have them
+-- the place of n characters from i on, of a string of m: F4 where it doesn't have them; of a part, no place is further than the end of its variable
 abbrev pub spot_within : {P : Type 0} → Place → ℕ → ℕ → Spot → ℤ → M P Given
 spot_within w m n (whole k) (pos i) = test (nat_le (i + n) m) (give (a_spot (within k m i n))) (fault_at fault.PlaceOutsideString w)
-spot_within w m n (within k whole_length from count) (pos i) = test (nat_le (i + n) m) (give (a_spot (within k whole_length (from + i) n))) (fault_at fault.PlaceOutsideString w)
+spot_within w m n (within k whole_length from count) (pos i) = test (nat_le (i + n) m) (give (a_spot (within k whole_length (min (from + i) whole_length) n))) (fault_at fault.PlaceOutsideString w)
 spot_within w m n k (negsuc i) = fault_at fault.PlaceOutsideString w
 
 abbrev pub string_answer : {P : Type 0} → Place → Result (List ℕ) Fault → M P Given

@@ -98,6 +98,22 @@ impl Records {
         Ok(id)
     }
 
+    /// How many fields the records have.
+    #[inline]
+    pub fn field_count(&self) -> u32
+        ensures { result ≡ length (all_fields self.now) }
+    {
+        self.taken
+    }
+
+    /// How many records there are.
+    #[inline]
+    pub fn count(&self) -> u32
+        ensures { result ≡ length self.now }
+    {
+        u32::from(self.made)
+    }
+
     /// The class of a record.
     #[inline]
     pub fn class_of(&self, id: RecordId) -> ClassId
@@ -120,6 +136,7 @@ impl Records {
         ensures answer { result
             ≡ at_reference self.now reference class (λ id. first_field self.now id + position) }
         ensures within { IfOk result (λ place. place < length (all_fields self.now)) }
+        ensures few { IfOk result (λ place. place < 16384) }
     {
         let Some(id) = reference else {
             return Err(Fault::ReferenceNull);

@@ -4,3 +4,4 @@ pub mod Keeping
 pub mod Growing
 pub mod Linked
 pub mod Numbers
+pub mod Limited

@@ -11,3 +11,4 @@ pub mod CodeView
 pub mod Making
 pub mod Made
 pub mod Linking
+pub mod Limits

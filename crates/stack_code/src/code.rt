@@ -1,10 +1,12 @@
-ghost use Rattle.std.specs.Prelude.{◌≡◌, ◌<◌, IfOk, OnErr, OnOk, length, slice_index_or};
+ghost use Rattle.std.specs.Prelude.{◌≡◌, ◌<◌, ◌≤◌, IfOk, OnErr, OnOk, length, slice_index_or, true};
 ghost use Rattle.record_classes.specs.Classes.{class_of, has, set_of};
 ghost use Rattle.stack_code.specs.CodeView.{GivenFits, InstrFits, ProcedureFits, TextFits};
+ghost use Rattle.stack_code.specs.Limits.{CodeRuns, InstrRuns, ProcedureRuns, TextRuns, is_instr};
 ghost use Rattle.stack_code.specs.Making.{given_by, no_instructions, with_instruction, with_replaced, with_marks, with_string, with_procedure, with_text, with_call, with_stars};
 
 use crate::heads::{CodedName, ComparedCall, ProcedureHead, Stars, TextHead};
 use crate::instructions::{Coded, Instr};
+use crate::limits::MOST_DIMENSIONS;
 use record_classes::ClassTable;
 use std::alloc::{AllocError, Global};
 use std::marker::Model;
@@ -24,7 +26,9 @@ pub struct ProgramTables {
 }
 
 /// The code of a program: its instructions, and what the numbers in them stand for. Each of these numbers is one that the
-/// code has.
+/// code has, and all that it has is within a machine's limits: a string has 1 to 256 characters, an array at most 8
+/// dimensions, and a procedure at most 65,536 formals. What is beyond them is not taken, and answered as want of memory:
+/// no program without faults has it.
 #[derive(Drop)]
 pub struct Code {
     pub(crate) instructions: Vec<Coded>,
@@ -43,11 +47,12 @@ impl Model for Code {
     ghost Value = { CodeView };
 
     ghost use Rattle.stack_code.specs.CodeView.{CodeFits};
+    ghost use Rattle.stack_code.specs.Limits.{IsWithin};
     ghost use Rattle.stack_code.specs.Making.{given_by, added_by};
 
     ghost view = { λ c. record { instructions = c.instructions.items; marks = c.marks; given = given_by c.tables; added = added_by c.strings c.procedures c.texts c.calls c.stars } };
 
-    ghost invariant = { λ c. CodeFits (record { instructions = c.instructions.items; marks = c.marks; given = given_by c.tables; added = added_by c.strings c.procedures c.texts c.calls c.stars }) };
+    ghost invariant = { λ c. CodeFits (record { instructions = c.instructions.items; marks = c.marks; given = given_by c.tables; added = added_by c.strings c.procedures c.texts c.calls c.stars }) × IsWithin (record { instructions = c.instructions.items; marks = c.marks; given = given_by c.tables; added = added_by c.strings c.procedures c.texts c.calls c.stars }) };
 }
 
 /// The next number of a list so long. Where it has none the answer is want of memory.
@@ -58,6 +63,13 @@ fn next_number(len: usize) -> Result<u32, AllocError>
         return Err(AllocError);
     };
     Ok(number)
+}
+
+/// What is beyond a machine's limits is want of memory.
+fn within(limits: bool) -> Result<(), AllocError>
+    ensures { OnOk result (limits ≡ true) }
+{
+    if limits { Ok(()) } else { Err(AllocError) }
 }
 
 /// What a compiler does.
@@ -86,6 +98,7 @@ impl Code {
         ensures added { OnOk result (self.new ≡ with_instruction self.old at does) }
         ensures unchanged { OnErr result (self.new ≡ self.old) }
     {
+        within(does.is_within_limits())?;
         let number = next_number(self.instructions.len())?;
         self.instructions.push(Coded { at, does })?;
         Ok(number)
@@ -95,6 +108,7 @@ impl Code {
     pub fn replace(&mut self, number: u32, does: Instr)
         requires there { number < length self.old.instructions }
         requires fits { InstrFits self.old.given self.old.added does }
+        requires within { is_instr does ≡ true }
         ensures { self.new ≡ with_replaced self.old number does }
     {
         self.instructions[number as usize].does = does;
@@ -125,6 +139,7 @@ impl Code {
         ensures added { OnOk result (self.new ≡ with_procedure self.old head) }
         ensures unchanged { OnErr result (self.new ≡ self.old) }
     {
+        within(head.is_within_limits())?;
         let number = next_number(self.procedures.len())?;
         self.procedures.push(head)?;
         Ok(number)
@@ -137,6 +152,7 @@ impl Code {
         ensures added { OnOk result (self.new ≡ with_text self.old head) }
         ensures unchanged { OnErr result (self.new ≡ self.old) }
     {
+        within(head.is_within_limits())?;
         let number = next_number(self.texts.len())?;
         self.texts.push(head)?;
         Ok(number)
@@ -159,6 +175,7 @@ impl Code {
         ensures added { OnOk result (self.new ≡ with_stars self.old stars) }
         ensures unchanged { OnErr result (self.new ≡ self.old) }
     {
+        within(stars.are.len() <= MOST_DIMENSIONS)?;
         let number = next_number(self.stars.len())?;
         self.stars.push(stars)?;
         Ok(number)
@@ -178,14 +195,15 @@ impl Code {
     pub fn coded(&self, number: u32) -> Coded
         requires { number < length self.now.instructions }
         ensures value { result ≡ slice_index_or self.now.instructions number result }
-        ensures fits { InstrFits self.now.given self.now.added result.does }
+        ensures runs { InstrRuns self.now.given self.now.added result.does }
     {
         self.instructions[number as usize]
     }
 
     /// How many marks a text may have in each other.
     pub fn marks(&self) -> u32
-        ensures { result ≡ self.now.marks }
+        ensures value { result ≡ self.now.marks }
+        ensures runs { CodeRuns self.now }
     {
         self.marks
     }
@@ -249,7 +267,7 @@ impl Code {
     pub fn procedure(&self, number: u32) -> &ProcedureHead
         requires { number < length self.now.added.procedures }
         ensures value { result.now ≡ slice_index_or self.now.added.procedures number result.now }
-        ensures fits { ProcedureFits self.now.given result.now }
+        ensures runs { ProcedureRuns self.now.given result.now }
     {
         &self.procedures[number as usize]
     }
@@ -258,7 +276,7 @@ impl Code {
     pub fn text(&self, number: u32) -> TextHead
         requires { number < length self.now.added.texts }
         ensures value { result ≡ slice_index_or self.now.added.texts number result }
-        ensures fits { TextFits self.now.given result }
+        ensures runs { TextRuns self.now.given result }
     {
         self.texts[number as usize]
     }

@@ -6,6 +6,7 @@ mod code;
 mod heads;
 mod instructions;
 mod laws;
+mod limits;
 mod linking;
 
 pub use code::{Code, ProgramTables};

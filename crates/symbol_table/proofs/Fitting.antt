@@ -37,6 +37,7 @@ use Rattle.symbol_table.proofs.Fronts.{front_block, front_formals}
 use Rattle.symbol_table.proofs.Knowing.{decls_fields_known, decls_formals_known, groups_in, kind_known, name_known, procedure_known}
 use Rattle.symbol_table.proofs.Once.{once_more}
 use Rattle.symbol_table.proofs.Places.{numbered_place}
+use Rattle.symbol_table.proofs.There.{There, block_there, formals_there}
 use Rattle.symbol_table.proofs.Placing.{ClassOf, class_numbered, ClassesOf, classes_of, formals_placed, new_names, new_placed}
 
 -- the scene, where this is known of names
@@ -152,6 +153,7 @@ block_fits s here target decls items fits kd ki kc fresh =
       titled = fits.titled;
       once = subst IsOnce (sym (front_block s.symbols.classes here.level (first_cursor s.symbols here target) decls (here.entries + entry_count decls) (target + procedure_count decls) items s.symbols.names)) (once_more s (new_names s here target decls items) (block_infos s decls items) fits.once (new_placed s here target decls items (classes_of s fits decls kd kc)) fresh);
       names = decls_fit s fits v here.level (first_cursor s.symbols here target) decls (label_names here.level (here.entries + entry_count decls) (target + procedure_count decls) items s.symbols.names) (classes_of s fits decls kd kc) (omega (arith, n_fields)) (omega (arith, n_formals)) kd labels;
+      there = block_there s here target decls items (classes_of s fits decls kd kc) fits.there;
       fields = All-append (KindFits s.given) s.symbols.fields (decls_fields decls) fits.fields (decls_fields_known s fits decls kd);
       formals = All-append (FormalFits s.given) s.symbols.formals (decls_formals decls) fits.formals (decls_formals_known s fits decls kd);
     }
@@ -182,6 +184,7 @@ body_fits s level fs fits k fresh =
       titled = fits.titled;
       once = subst IsOnce (sym (front_formals level 1 (all_formals fs) s.symbols.names)) (once_more s (formal_names level 1 (all_formals fs) []) (formals_info (map (formal_view (numbers_in s)) fs)) fits.once (formals_placed s level 1 fs) fresh);
       names = formals_fit s fits v level 1 (all_formals fs) s.symbols.names k (All-weaker (NameFits s) (NameFits (with_symbols s v)) (λ x h. (h.0, grown s v (omega arith) (omega arith) x.1 h.1)) s.symbols.names fits.names);
+      there = formals_there s level 1 (all_formals fs) s.symbols.names fits.there;
       fields = fits.fields;
       formals = fits.formals;
     }
@@ -211,6 +214,7 @@ turn_fits s n e fits k fresh =
       titled = fits.titled;
       once = once_more s ((n, standing.Control e) ∷ []) (control_info (numbered (numbers_in s).names n)) fits.once (turn_places s n e) fresh;
       names = All-cons (NameFits (with_symbols s v)) (n, standing.Control e) s.symbols.names (name_known s fits n k, tt) (All-weaker (NameFits s) (NameFits (with_symbols s v)) (λ x h. (h.0, grown s v (omega arith) (omega arith) x.1 h.1)) s.symbols.names fits.names);
+      there = All-cons (There s) (n, standing.Control e) s.symbols.names tt fits.there;
       fields = fits.fields;
       formals = fits.formals;
     }

@@ -11,6 +11,7 @@ pub mod Fresh
 pub mod Knowing
 pub mod Placing
 pub mod Once
+pub mod There
 pub mod Fitting
 pub mod TakenBack
 pub mod Viewing

@@ -1,20 +1,18 @@
 -- A procedure of a block, where the block's names are declared.
-use Rattle.std.proofs.Common.{◌≡◌, ◌≢◌, ℕ, ◌+◌, ◌==◌, List, [], ◌∷◌, ◌++◌, length, Option, Bool, true, false, refl, sym, ap, ◌∙◌, subst, arith, append_assoc}
-use Rattle.std.specs.List.{All}
-use Rattle.std.proofs.lemmas.Bool.{eqb-true, eq-eqb, false≢true}
+use Rattle.std.proofs.Common.{◌≡◌, ◌≢◌, ℕ, ◌+◌, ◌==◌, List, [], ◌∷◌, ◌++◌, length, Option, Bool, true, false, refl, sym, ap, ◌∙◌, subst, append_assoc}
+use Rattle.std.proofs.lemmas.Bool.{eqb-true, eq-eqb}
 use Rattle.std.proofs.lemmas.List.{length-append}
 use Rattle.std.proofs.lemmas.List.Elements.{All-head}
 use Rattle.value_ops.specs.declared.values.ClassId.{ClassId}
 use Rattle.algolw_tree.specs.declared.programs.TypedDecl.{TypedDecl, Proc}
 use Rattle.algolw_tree.specs.declared.programs.TypedItem.{TypedItem}
 use Rattle.algolw_tree.specs.declared.programs.TypedProc.{TypedProc}
-use Rattle.stack_code.specs.declared.heads.Formal.{Formal}
 use Rattle.symbol_table.specs.declared.blocks.Cursor.{Cursor}
 use Rattle.symbol_table.specs.declared.here.Here.{Here}
 use Rattle.symbol_table.specs.declared.standings.Procedure.{Procedure}
 use Rattle.symbol_table.specs.declared.standings.Standing.{Standing}
 use Rattle.symbol_table.specs.declared.standings.Standing.TheVariants as standing
-use Rattle.symbol_table.specs.Blocks.{all_formals, behind, block_names, decl_formals, decl_names, decls_fields, decls_formals, decls_names, entry_count, first_cursor, formal_count, formals_in, label_names, named_procedure, procedure_count, result_of, with_block}
+use Rattle.symbol_table.specs.Blocks.{all_formals, behind, block_names, decl_formals, decl_names, decls_formals, decls_names, entry_count, first_cursor, formal_count, formals_in, label_names, named_procedure, procedure_count, result_of}
 use Rattle.symbol_table.specs.Contexts.{IsOnce, Scene, SceneFits, in_block}
 use Rattle.symbol_table.specs.Standings.{Names, standing_of}
 use Rattle.symbol_table.specs.Symbols.{SymbolsView, formals_of}

@@ -3,11 +3,14 @@ use Rattle.std.proofs.Common.{◌≡◌, ℕ, ◌+◌, ◌<◌, List, [], true, 
 use Rattle.std.specs.List.{All}
 use Rattle.std.proofs.lemmas.List.{length-append}
 use Rattle.std.proofs.lemmas.List.Elements.{All-drop, All-nil, All-take, All-weaker}
+use Rattle.value_ops.specs.declared.places.Place.{Place}
 use Rattle.algolw_tree.specs.declared.programs.TypedDecl.{TypedDecl}
 use Rattle.algolw_tree.specs.declared.programs.TypedItem.{TypedItem}
+use Rattle.algolw_typing.specs.Typed as typed
 use Rattle.algolw_typing.specs.Known.{KnowsDecls, KnowsItems}
 use Rattle.algolw_typing.specs.ProgramView.{numbered}
 use Rattle.algolw_typing.specs.Types.{has}
+use Rattle.compilable_programs.specs.Begun.{DeclsBegun}
 use Rattle.stack_code.specs.CodeView.{FormalFits}
 use Rattle.stack_code.specs.declared.heads.Formal.{Formal}
 use Rattle.symbol_table.specs.declared.here.Here.{Here}
@@ -21,6 +24,14 @@ use Rattle.symbol_table.specs.Symbols.{SymbolsView, formals_of}
 use Rattle.symbol_table.proofs.Fitting.{NameFits, decls_fit, labels_fit, with_symbols}
 use Rattle.symbol_table.proofs.Knowing.{name_known}
 use Rattle.symbol_table.proofs.Placing.{classes_of}
+
+-- the classes of declarations that are begun are the program's
+pub declared_had : (classes : List Place) (decls : typed.Decls) → DeclsBegun classes decls → ClassesHad classes decls
+declared_had classes typed.no_decls b = tt
+declared_had classes (typed.decl_and (typed.Simple t xs) rest) b = declared_had classes rest b.1
+declared_had classes (typed.decl_and (typed.Array t xs pairs) rest) b = declared_had classes rest b.1
+declared_had classes (typed.decl_and (typed.Proc p result x formals body) rest) b = declared_had classes rest b.1
+declared_had classes (typed.decl_and (typed.Class x groups) rest) b = (b.0, declared_had classes rest b.1)
 
 -- of a block
 pub block_numbered : (s : Scene) (here : Here) (target : ℕ) (decls : List TypedDecl) (items : List TypedItem) → SceneFits s → KnowsDecls (numbers_in s).names s.given.class_places (decls_in (numbers_in s) decls) → KnowsItems (numbers_in s).names s.given.class_places (items_in (numbers_in s) items) → ClassesHad s.given.class_places (decls_in (numbers_in s) decls) → All (λ (name : ℕ × Standing). name.0 < s.symbols.count) (block_names s.symbols here target decls items [])

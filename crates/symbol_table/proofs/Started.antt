@@ -16,7 +16,7 @@ use Rattle.algolw_typing.specs.Programs.{TypedProgram}
 use Rattle.algolw_typing.specs.Scopes.{standard_scope}
 use Rattle.algolw_typing.specs.Types.{ValueType, has, is_place}
 use Rattle.program_meaning.specs.Translating as translating
-use Rattle.program_soundness.specs.Tables.{Info, all_infos, are_apart, infos, standard_infos}
+use Rattle.program_soundness.specs.Tables.{Info, infos, standard_infos}
 use Rattle.program_soundness.proofs.Arrays.{both_true}
 use Rattle.program_soundness.proofs.Records.{place_read}
 use Rattle.phrase_code.specs.Coding as coding
@@ -30,6 +30,7 @@ use Rattle.symbol_table.specs.Standings.{Names, every_name}
 use Rattle.symbol_table.specs.Symbols.{class_at, class_numbers, classes_set, only_standard}
 use Rattle.symbol_table.proofs.Fresh.{apart_between, apart_right, info_places, or_false}
 use Rattle.symbol_table.proofs.Places.{has_numbered, in_range, numbered_place, other_place, same_number}
+use Rattle.symbol_table.proofs.There.{every_there}
 use Rattle.symbol_table.proofs.Written.{coded, coded_places, same_phrase, written_same}
 
 -- the scene of a program before anything is declared
@@ -207,6 +208,7 @@ module _ (p : Program) (x : TypedProgram) (may : IsCompilable p x) (g : Given) (
             ∙ ap (λ (t : Classes). (class_of t (record { 0 = n })).name) (sym table);
         once = once_differ every_name refl;
         names = every_fits first many;
+        there = every_there first may.others (names ∙ may.standard);
         fields = All-nil (KindFits g);
         formals = All-nil (FormalFits g);
       }
@@ -237,12 +239,12 @@ begun_phrase p x may g e =
 pub begun_codes : (g : Given) (class_names ts : List ℕ) (statement : ℕ) → coding_context (begun g class_names) ts (record { statement = statement; level = 0; entries = 0 }) ≡ coding.outermost
 begun_codes g class_names ts statement = refl
 
--- the declarations of its tree are new, where no two are one, those of every deck among them
-pub begun_fresh : (p : Program) (x : TypedProgram) → IsCompilable p x → (g : Given) → g.names ≡ map coded x.names → are_apart (all_infos x.root) ≡ true → AreFresh (begun g p.class_names.items) (infos x.root)
-begun_fresh p x may g e apart =
+-- the declarations of its tree are new
+pub begun_fresh : (p : Program) (x : TypedProgram) → IsCompilable p x → (g : Given) → g.names ≡ map coded x.names → AreFresh (begun g p.class_names.items) (infos x.root)
+begun_fresh p x may g e =
     let s : Scene = begun g p.class_names.items in
     let every : info_places (standard_infos (translating.standard_known standard_scope)) ≡ places_of s s.symbols.names = ap (λ (ks : List translating.Known). info_places (standard_infos ks)) (sym (begun_known p x may g (names_coded x g e))) in
     record {
-      apart = apart_right (standard_infos (translating.standard_known standard_scope)) (infos x.root) apart;
-      new = subst (λ (places : List Place). All (λ (i : Info). has places i.place ≡ false) (infos x.root)) every (apart_between (standard_infos (translating.standard_known standard_scope)) (infos x.root) apart);
+      apart = apart_right (standard_infos (translating.standard_known standard_scope)) (infos x.root) may.once;
+      new = subst (λ (places : List Place). All (λ (i : Info). has places i.place ≡ false) (infos x.root)) every (apart_between (standard_infos (translating.standard_known standard_scope)) (infos x.root) may.once);
     }

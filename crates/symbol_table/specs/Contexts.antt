@@ -20,7 +20,9 @@ use Rattle.stack_code.specs.CodeView.{Given, FormalFits, KindFits, KindsFit, cla
 use Rattle.stack_code.specs.Linking.{instruction_at}
 use Rattle.stack_code.specs.declared.heads.CodedName.{CodedName}
 use Rattle.stack_code.specs.declared.heads.Formal.{Formal}
+use Rattle.stack_code.specs.declared.instructions.UnaryOp.{UnaryOp}
 use Rattle.stack_code.specs.declared.instructions.UnaryOp.TheVariants as unary
+use Rattle.compilable_programs.specs.Begun.{standard_procedures}
 use Rattle.compilable_programs.specs.Compiled.{AreApart}
 use Rattle.symbol_table.specs.declared.here.Here.{Here}
 use Rattle.symbol_table.specs.declared.standings.Entry.{Entry}
@@ -122,6 +124,27 @@ StandingFits s (standing.Class c) = (c.class.0 < length s.given.class_places) ×
 StandingFits s (standing.Field c n t) = (c.0 < length s.given.class_places) × KindFits s.given t
 StandingFits s x = ⊤
 
+-- of the operations of one operand these are functions
+abbrev pub IsFunction : UnaryOp → Type 0
+IsFunction unary.IsOdd = ⊤
+IsFunction unary.ToBits = ⊤
+IsFunction unary.ToNumber = ⊤
+IsFunction unary.ToCharacter = ⊤
+IsFunction unary.ToCode = ⊤
+IsFunction op = ⊥
+
+-- a standard function is an operation that is one, and a standard procedure stands at a place of these
+abbrev pub StandardAt : Place → Standard → Type 0
+StandardAt p (standard.Function op) = IsFunction op
+StandardAt p standard.MaxInteger = ⊤
+StandardAt p n = has standard_procedures p ≡ true
+
+-- a class stands where the class of its number does
+abbrev pub StandsAt : Scene → Place → Standing → Type 0
+StandsAt s p (standing.Class c) = class_place s.given c.class ≡ p
+StandsAt s p (standing.Standard n) = StandardAt p n
+StandsAt s p x = ⊤
+
 -- no name is declared twice
 abbrev pub IsOnce : Names → Type 0
 IsOnce [] = ⊤
@@ -135,7 +158,8 @@ abbrev pub IsNumbered : Scene → Place → Option ClassId → Type 0
 IsNumbered s p None = ⊥
 IsNumbered s p (Some c) = class_place s.given c ≡ p
 
--- the tables have a standing for each name, names stand apart, each class has its number and its name, and what is known of names fits
+-- the tables have a standing for each name, names stand apart, each class has its number and its name, and what is known of names fits, each at
+-- its place
 pub record SceneFits (s : Scene) : Type 0 where
   pub counted : s.symbols.count ≡ length s.given.names
   pub classes : length s.symbols.classes ≡ length s.given.names
@@ -146,6 +170,7 @@ pub record SceneFits (s : Scene) : Type 0 where
   pub titled : (n : ℕ) → n < length s.given.class_places → translating.text_at (map info_of s.given.names) (place_of_class s n) ≡ (class_of s.given.classes (record { 0 = n })).name
   pub once : IsOnce s.symbols.names
   pub names : All (λ (x : ℕ × Standing). (x.0 < length s.given.names) × StandingFits s x.1) s.symbols.names
+  pub there : All (λ (x : ℕ × Standing). StandsAt s (place_of s x.0) x.1) s.symbols.names
   pub fields : All (KindFits s.given) s.symbols.fields
   pub formals : All (FormalFits s.given) s.symbols.formals
 

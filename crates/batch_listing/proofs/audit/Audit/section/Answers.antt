@@ -4,6 +4,7 @@ use Rattle.batch_listing.specs.Texts.{title}
 use Rattle.batch_listing.specs.Listing.{body, decision}
 use Rattle.batch_listing.specs.Behind.{Fits}
 use Rattle.batch_listing.proofs.Deciding.{accepted_at, section_at}
+use Rattle.batch_listing.proofs.Tallying.{tally_behind}
 use Rattle.batch_listing.proofs.audit.Audit.section.Goals as goal
 
 pub returns-in_err-push_body-clause-spared : goal.returns-in_err-push_body-clause-spared
@@ -32,3 +33,12 @@ returns-clause-rerun c = λ earlier behind.
     let openings = openings_of c.args.self.now.book.accounts in
     let rerun : Bool → Type 0 = λ taken. taken ≡ true → (Fits c.args.brought c.args.job.now.value → ⊥) → c.push_body.new.self.reruns ≡ min (c.args.self.now.reruns + 1) 4294967295 in
     subst rerun (accepted_at openings c.args.self.now.book.balances earlier c.args.job.now.value behind) c.in_ok-push_body.ensures.rerun
+
+pub returns-clause-tally : goal.returns-clause-tally
+returns-clause-tally c = λ earlier behind kept.
+    let job = c.args.job.now.value in
+    let balances = c.args.self.now.book.balances in
+    let made = body (decision (slice_index balances) job) job in
+    let text = c.in_ok-push_body.ensures.text
+    ∙ ap (λ (text : List ℕ). text ++ made) (c.in_ok-push_title.ensures ∙ ap (λ (text : List ℕ). text ++ title c.deref.result.now) c.new-out.ensures.items ∙ ap title c.deref.ensures) in
+    tally_behind (openings_of c.args.self.now.book.accounts) balances earlier job c.push_body.new.out.items c.args.self.now.tally c.push_body.new.self.tally behind text kept c.in_ok-push_body.ensures.tally

@@ -1,14 +1,15 @@
-use Rattle.std.proofs.Common.{◌≡◌, ◌≤◌, ◌<◌, ◌+◌, ◌∙◌, ap, sym, refl, pos, ℤ, List, Option, Some, None, Ok, map, drop, length, get_or, arith}
+use Rattle.std.proofs.Common.{◌≡◌, ◌≤◌, ◌<◌, ◌+◌, ◌∙◌, ap, sym, refl, subst, pos, ℕ, ℤ, List, Option, Some, None, Ok, map, drop, length, get_or, arith}
+use Rattle.std.specs.Prelude.{IfSome}
 use Rattle.std.specs.Option.{option_or}
 use Rattle.std.proofs.lemmas.List.{at_drop_all, get_or_default}
 use Rattle.cell_store.specs.declared.dimension.Dimension.{Dimension}
 use Rattle.cell_store.specs.Held.{further, further_all}
 use Rattle.cell_store.specs.Arrays.{dimension, chosen, elements}
-use Rattle.cell_store.proofs.Indexing.{index_is, not_found, found, chosen_next, left_next, taken_few, further_most, further_on, further_stops}
+use Rattle.cell_store.proofs.Indexing.{index_is, not_found, found, found_within, chosen_next, left_next, taken_few, further_most, further_on, further_stops}
 use Rattle.cell_store.proofs.descriptor.Descriptor.index.Goals as goal
 
-pub returns-in_default : goal.returns-in_default
-returns-in_default c =
+pub returns-in_default-clause-value : goal.returns-in_default-clause-value
+returns-in_default-clause-value c =
     let now = c.args.self.now in
     let more : List (Option ℤ) = map (λ i. Some i) c.args.subscripts.now in
     let k = c.loop-dimension.dimension-index in
@@ -40,8 +41,8 @@ loop-dimension-preserved c =
       few = omega (arith, c.from-next.ensures, taken_few c.is_none.result);
     }
 
-pub returns : goal.returns
-returns c =
+pub returns-clause-value : goal.returns-clause-value
+returns-clause-value c =
     let now = c.args.self.now in
     let more : List (Option ℤ) = map (λ i. Some i) c.args.subscripts.now in
     let n = c.loop-dimension.offset in
@@ -55,3 +56,6 @@ returns c =
     ∙ ap (λ f. found f total (Some n)) first
     ∙ ap (found now.first total) (sym walked)
     ∙ sym (index_is now c.args.subscripts.now total counted (omega (arith, c.self.invariant.within)))
+
+pub returns-clause-within : goal.returns-clause-within
+returns-clause-within c = subst (λ (o : Option ℕ). IfSome o (λ cell. cell < 32768)) (sym c.then_some.ensures) (found_within c.self.inside.first c.self.inside.total c.loop-dimension.offset c.self.invariant.within)

@@ -1,0 +1,9 @@
+pub mod Registers
+pub mod Contents
+pub mod Answers
+pub mod Kinds
+pub mod Seen
+pub mod Names
+pub mod Parts
+pub mod Assigned
+pub mod Printed

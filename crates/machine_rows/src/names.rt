@@ -1,0 +1,92 @@
+ghost use Rattle.std.specs.Prelude.{◌≡◌, IsSome, Some};
+ghost use Rattle.machine_rows.specs.Contents.{thunk_in};
+ghost use Rattle.machine_rows.specs.Names as named;
+
+use cell_store::{Closed, Entry, Purpose, Store, Wide};
+use name_thunks::text_out;
+use stack_code::Mode;
+
+/// How many entries lie below those of the text so many links out.
+#[inline(always)]
+pub fn start_out(store: &Store, links: u16) -> u32
+    requires { IsSome (named.start_out store.now links) }
+    ensures { named.start_out store.now links ≡ Some result }
+{
+    let text = if links == 0 {
+        store.current()
+    } else {
+        let Some(text) = text_out(store, u32::from(links)) else {
+            unreachable!()
+        };
+        text
+    };
+    let Some(number) = text else {
+        return 0;
+    };
+    let Some(frame) = store.frame(number) else {
+        unreachable!()
+    };
+    frame.start
+}
+
+/// The entry at a position of the text so many links out.
+#[inline(always)]
+pub fn entry_out(store: &Store, links: u16, position: u32) -> Entry
+    requires { IsSome (named.entry_out store.now links position) }
+    ensures { named.entry_out store.now links position ≡ Some result }
+{
+    let start = start_out(store, links);
+    let count = store.entry_count();
+    if position >= count || start >= count - position {
+        unreachable!()
+    }
+    let Some(entry) = store.entry(start + position) else {
+        unreachable!()
+    };
+    entry
+}
+
+/// The cell of the name at a position of the text so many links out.
+#[inline(always)]
+#[tactic(auto, using(crate::proofs::Shown::content_found))]
+pub fn cell_out(store: &Store, links: u16, position: u32) -> u32
+    requires { IsSome (named.cell_out store.now links position) }
+    ensures { named.cell_out store.now links position ≡ Some result }
+{
+    match entry_out(store, links, position) {
+        Entry::Name { cell, .. } | Entry::ProcedureName { cell, .. } => cell,
+        _ => unreachable!(),
+    }
+}
+
+/// What a variable is wanted for.
+#[inline(always)]
+pub fn wanted(store: &Store, mode: Mode) -> Purpose
+    requires { IsSome (named.wanted_for store.now mode) }
+    ensures { named.wanted_for store.now mode ≡ Some result }
+{
+    match mode {
+        Mode::Value => Purpose::Value,
+        Mode::Place => Purpose::Place,
+        Mode::AsAsked => {
+            let Some(number) = store.current() else {
+                unreachable!()
+            };
+            let Some(frame) = store.frame(number) else {
+                unreachable!()
+            };
+            frame.purpose
+        }
+    }
+}
+
+/// The copied actual that a formal stands for.
+pub fn thunk_out(store: &Store, links: u16, position: u32) -> Closed
+    requires { IsSome (thunk_in (named.content_out store.now links position)) }
+    ensures { thunk_in (named.content_out store.now links position) ≡ Some result }
+{
+    match store.wide_cell(cell_out(store, links, position)) {
+        Some(Wide::Thunk(thunk)) => *thunk,
+        _ => unreachable!(),
+    }
+}

@@ -1,0 +1,15 @@
+pub mod Entries
+pub mod Cutting
+pub mod BlockRows
+pub mod HeldRows
+pub mod LoopRows
+pub mod ControlRows
+pub mod DumpLines
+pub mod RecordShown
+pub mod JumpRows
+pub mod RowResults
+pub mod RunRows
+pub mod RunShown
+pub mod Walks
+pub mod BoundsShown
+pub mod Preparing

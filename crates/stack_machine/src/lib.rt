@@ -1,0 +1,15 @@
+//! Running code: `Desk`, which holds what a run needs, and `run`.
+#![tactic(auto)]
+
+mod blocks;
+mod control;
+mod desk;
+mod dump;
+mod loops;
+mod rows;
+mod running;
+mod trace;
+
+pub use desk::{Desk, Outcome};
+pub use machine_rows::Limits;
+pub use running::run;
