@@ -14,12 +14,8 @@ use Rattle.algolw_scanner.proofs.Pieces.{scanned_is}
 use Rattle.algolw_grammar.specs.Parsing.{parsed, diagnostic_of}
 use Rattle.algolw_grammar.proofs.Verdict.{answered, one_answer}
 use Rattle.algolw_typing.specs.Faults.{program_faults}
-use Rattle.algolw_meaning.specs.DeckDiagnostics.{Deck, IsProgram, IsWrong, NothingFound, DecksAreRead, DiagnosticsOfDecks, HasDiagnostics, HasFault, HasProgram, IsFound, answer_deck, deck_diagnostics, deck_of, diagnostics_found, reading_deck, wrong}
+use Rattle.algolw_meaning.specs.DeckDiagnostics.{Deck, IsProgram, IsWrong, NothingFound, DecksAreRead, DiagnosticsOfDecks, HasDiagnostics, HasFault, HasProgram, IsFound, answer_deck, deck_diagnostics, deck_of, diagnostics_found, reading_deck}
 use Rattle.algolw_meaning.specs.Meaning.{shown_diagnostics}
-
-by_reading : (deck : List (List ℕ)) → deck_diagnostics deck ≡ diagnostics_found (reading_deck (scanned deck))
-unfolding deck_diagnostics
-by_reading deck = refl
 
 -- ---- the last token of a deck is its end
 
@@ -113,22 +109,13 @@ diagnostics_of_decks deck = subst (HasDiagnostics deck) (sym (diagnostics_are de
 
 -- ---- what is shown of them
 
--- a fault of the tokens alone
-pub tokens_shown : (deck : List (List ℕ)) (d : Diagnostic) → FirstFault d ≡ scanned deck → shown_diagnostics deck ≡ d ∷ []
-tokens_shown deck d is = ap (take 20) (by_reading deck ∙ ap (λ (r : Reading). diagnostics_found (reading_deck r)) (sym is))
+found_shown : (deck : List (List ℕ)) (d : Deck) → IsFound deck d → shown_diagnostics deck ≡ take 20 (diagnostics_found d)
+found_shown deck d h = ap (take 20) (diagnostics_are deck ∙ ap diagnostics_found (sym (decks_are_read.only deck d h)))
 
-by_tokens : (deck : List (List ℕ)) (tokens : List Token) (a : Answer) → AllTokens tokens ≡ scanned deck → parsed tokens ≡ Some a → deck_diagnostics deck ≡ diagnostics_found (answer_deck (Some a))
-by_tokens deck tokens a is read = by_reading deck ∙ ap (λ (r : Reading). diagnostics_found (reading_deck r)) (sym is) ∙ ap (λ (o : Option Answer). diagnostics_found (answer_deck o)) read
-
-wrong_form : (a : Answer) (d : Diagnostic) → diagnostic_of a ≡ Some d → diagnostics_found (answer_deck (Some a)) ≡ d ∷ []
-wrong_form (Unexpected t rest) d is = ap (λ (o : Option Diagnostic). diagnostics_found (wrong o)) is
-wrong_form (TooDeep t rest) d is = ap (λ (o : Option Diagnostic). diagnostics_found (wrong o)) is
-wrong_form (Program x) d is = absurd (cc)
-
--- a fault of the form alone
-pub form_shown : (deck : List (List ℕ)) (tokens : List Token) (a : Answer) (d : Diagnostic) → AllTokens tokens ≡ scanned deck → parsed tokens ≡ Some a → diagnostic_of a ≡ Some d → shown_diagnostics deck ≡ d ∷ []
-form_shown deck tokens a d is read says = ap (take 20) (by_tokens deck tokens a is read ∙ wrong_form a d says)
+-- the fault of the tokens or the form, alone
+pub fault_shown : (deck : List (List ℕ)) (d : Diagnostic) → HasFault deck d → shown_diagnostics deck ≡ d ∷ []
+fault_shown deck d h = found_shown deck (IsWrong d) h
 
 -- the first twenty faults of a program
-pub program_shown : (deck : List (List ℕ)) (tokens : List Token) (x : Phrase) → AllTokens tokens ≡ scanned deck → parsed tokens ≡ Some (Program x) → shown_diagnostics deck ≡ take 20 (program_faults x)
-program_shown deck tokens x is read = ap (take 20) (by_tokens deck tokens (Program x) is read)
+pub program_shown : (deck : List (List ℕ)) (x : Phrase) → HasProgram deck x → shown_diagnostics deck ≡ take 20 (program_faults x)
+program_shown deck x h = found_shown deck (IsProgram x) h

@@ -1,31 +1,15 @@
 -- The result of a job costs at most the job's reserve.
-use Rattle.std.proofs.Common.{◌≡◌, ℕ, ◌≤◌, Bool, true, false, cond, nat_le, List, [], ◌∷◌, Option, Some, None, refl, arith}
-use Rattle.std.proofs.lemmas.Bool.Decides.{nat_tests}
+use Rattle.std.proofs.Common.{List, [], ◌∷◌, refl, arith}
 use Rattle.deck_reader.specs.JobView.{JobView}
-use Rattle.account_book.specs.Charges.{charge, reserve}
 use Rattle.value_ops.specs.declared.places.Diagnostic.{Diagnostic}
-use Rattle.algolw_meaning.specs.Sums.{sum_of_deck}
 use Rattle.algolw_typing.specs.Programs.{program_of}
 use Rattle.program_meaning.specs.Laws.{KeepsItsLimits}
 use Rattle.program_meaning.specs.Translating.{program_phrase}
 use Rattle.program_meaning.proofs.Runs.{runs_keep_their_limits}
 use Rattle.algolw_meaning.specs.DeckDiagnostics.{Deck, IsProgram, IsWrong, NothingFound, deck_of}
 use Rattle.algolw_meaning.specs.Laws.{KeepsTheJob, Within}
-use Rattle.algolw_meaning.specs.Meaning.{JobResult, narrow_result, result_by, shown_diagnostics}
+use Rattle.algolw_meaning.specs.Meaning.{JobResult, shown_diagnostics}
 use Rattle.algolw_meaning.specs.Running.{job_result, result_of_deck, setting_of}
-
--- the result of a job for these diagnostics and this sum, where it has one only if it may take two steps
-within_by : (faults : List Diagnostic) (enough : Bool) (sum : Option ℕ) (job : JobView) → (enough ≡ true → 2 ≤ job.steps) → 1 ≤ job.lines
-    → (job.cards ≤ charge (result_by faults (cond enough sum None) job).counts) × (charge (result_by faults (cond enough sum None) job).counts ≤ reserve job)
-within_by (d ∷ faults) enough sum job steps lines = (omega arith, omega arith)
-within_by [] false sum job steps lines = (omega arith, omega arith)
-within_by [] true None job steps lines = (omega arith, omega arith)
-within_by [] true (Some sum) job steps lines =
-    let two : 2 ≤ job.steps = steps refl in
-    (omega arith, omega (arith, two, lines))
-
-pub narrow_within : (job : JobView) → 1 ≤ job.lines → Within job (narrow_result job)
-narrow_within job lines = within_by (shown_diagnostics job.deck) (nat_le 2 job.steps) (sum_of_deck job.deck) job (λ e. grind (arith, nat_tests)) lines
 
 deck_keeps : (faults : List Diagnostic) (deck : Deck) (job : JobView) → KeepsTheJob job (result_of_deck faults deck job)
 deck_keeps (d ∷ faults) deck job = record { cards = refl; steps = omega arith; lines = omega arith }

@@ -7,7 +7,7 @@ use Rattle.algolw_tree.specs.Tree.{Phrase}
 use Rattle.algolw_typing.specs.Faults.{program_faults}
 use Rattle.algolw_typing.specs.Programs.{program_of}
 use Rattle.algolw_meaning.specs.DeckDiagnostics.{HasFault, HasProgram}
-use Rattle.algolw_meaning.specs.Meaning.{JobResult, diagnosed, narrow_result}
+use Rattle.algolw_meaning.specs.Meaning.{JobResult, diagnosed}
 use Rattle.algolw_meaning.specs.Running.{run_result, program_outcome, job_result}
 
 -- what a job gives, by the tokens of its deck
@@ -32,8 +32,7 @@ pub record KeepsTheJob (job : JobView) (result : JobResult) : Type 0 where
   pub steps : result.counts.steps ≤ job.steps
   pub lines : result.counts.lines ≤ job.lines
 
--- so is every job, and also by the narrow result, where it may print a line
+-- so does every job
 pub record ResultWithin : Type 0 where
   pub counts : (job : JobView) → KeepsTheJob job (job_result job)
-  pub whole : (job : JobView) → Within job (job_result job)
-  pub narrow : (job : JobView) → 1 ≤ job.lines → Within job (narrow_result job)
+  pub within : (job : JobView) → Within job (job_result job)

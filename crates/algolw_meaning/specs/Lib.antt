@@ -1,5 +1,4 @@
 pub mod Texts
-pub mod Sums
 pub mod DeckDiagnostics
 pub mod TypingDecks
 pub mod ProgramDecks

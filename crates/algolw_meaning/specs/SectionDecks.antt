@@ -1,7 +1,7 @@
 -- Jobs, each with the body of its section.
 use Rattle.std.specs.Prelude.{◌≡◌, ℕ, List, [], ◌∷◌, codes, Some, None}
 use Rattle.deck_reader.specs.JobView.{JobView}
-use Rattle.algolw_meaning.specs.Meaning.{JobResult, counts_of, narrow_result}
+use Rattle.algolw_meaning.specs.Meaning.{JobResult, counts_of}
 use Rattle.algolw_meaning.specs.Running.{job_result, lines}
 use Rattle.algolw_meaning.specs.declared.ending.Ending.{Ending}
 use Rattle.algolw_meaning.specs.declared.ending.Ending.TheVariants.{Normal, Fault, Limit, Diagnosed}
@@ -18,7 +18,7 @@ abbrev pub sum_job : JobView
 sum_job = job 2 10000 100 [] (codes "BEGIN WRITE(2 + 2) END." ∷ [])
 
 pub record SectionsGive : Type 0 where
-  -- it ends normally, and the narrow result is the whole one
+  -- it ends normally
   pub sum : job_result sum_job ≡ section
       (
       codes "   1        1  BEGIN WRITE(2 + 2) END."
@@ -29,7 +29,6 @@ pub record SectionsGive : Type 0 where
       ∷ []
       )
       2 2 1 Normal
-  pub narrow : narrow_result sum_job ≡ job_result sum_job
   -- each card has the count of its first statement, where one stands on it; what was under way is shown
   pub fault : job_result
       (job 7 10000 100 (codes "  12" ∷ []) (

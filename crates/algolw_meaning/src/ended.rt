@@ -1,5 +1,5 @@
 ghost use Rattle.std.specs.Prelude.{◌≡◌};
-ghost use Rattle.algolw_meaning.specs.Meaning.{narrow_result};
+ghost use Rattle.algolw_meaning.specs.Running.{job_result};
 
 use crate::ending::Ending;
 use account_book::Counts;
@@ -19,20 +19,20 @@ pub struct Ended {
 impl Model for Ended {
     ghost use Rattle.std.specs.Prelude.{◌≡◌};
     ghost use Rattle.algolw_meaning.specs.EndedView.{EndedView};
-    ghost use Rattle.algolw_meaning.specs.Meaning.{narrow_result};
+    ghost use Rattle.algolw_meaning.specs.Running.{job_result};
 
     ghost Value = { EndedView };
 
     ghost view = { λ e. record { job = e.job.value; body = e.body.items; counts = e.counts; ending = e.ending } };
 
-    ghost invariant = { λ e. narrow_result e.job.value
+    ghost invariant = { λ e. job_result e.job.value
         ≡ record { body = e.body.items; counts = e.counts; ending = e.ending } };
 }
 
 impl Ended {
     /// A job that has ended so. It takes no memory.
     pub fn new(job: Arc<Job>, body: Vec<u8>, counts: Counts, ending: Ending) -> Ended
-        requires { narrow_result job.value ≡ record { body = body.items; counts = counts; ending = ending } }
+        requires { job_result job.value ≡ record { body = body.items; counts = counts; ending = ending } }
         ensures { result ≡ record { job = job.value; body = body.items; counts = counts; ending = ending } }
     {
         Ended {
@@ -53,7 +53,7 @@ impl Ended {
     /// The body of its section, in whole lines.
     pub fn body(&self) -> &[u8]
         ensures body { result.now ≡ self.now.body }
-        ensures means { result.now ≡ (narrow_result self.now.job).body }
+        ensures means { result.now ≡ (job_result self.now.job).body }
     {
         self.body.as_slice()
     }
@@ -61,7 +61,7 @@ impl Ended {
     /// What it used.
     pub fn counts(&self) -> Counts
         ensures counts { result ≡ self.now.counts }
-        ensures means { result ≡ (narrow_result self.now.job).counts }
+        ensures means { result ≡ (job_result self.now.job).counts }
     {
         self.counts
     }
@@ -69,7 +69,7 @@ impl Ended {
     /// How it ended.
     pub fn ending(&self) -> Ending
         ensures ending { result ≡ self.now.ending }
-        ensures means { result ≡ (narrow_result self.now.job).ending }
+        ensures means { result ≡ (job_result self.now.job).ending }
     {
         self.ending
     }

@@ -7,8 +7,8 @@ use Rattle.deck_reader.specs.JobView.{JobView}
 use Rattle.account_book.specs.Charges.{charge, reserve}
 use Rattle.account_book.specs.Places.{account_by, balances_behind, claim_of, is_accepted, lowered, place_balance, settled}
 use Rattle.account_book.proofs.Tables.{table_holds}
-use Rattle.algolw_meaning.specs.Meaning.{narrow_result}
-use Rattle.algolw_meaning.proofs.Within.{narrow_within}
+use Rattle.algolw_meaning.specs.Running.{job_result}
+use Rattle.algolw_meaning.proofs.Within.{job_within}
 use Rattle.batch_listing.specs.declared.decision.Decision.{Decision}
 use Rattle.batch_listing.specs.declared.decision.Decision.TheVariants.{Flawed, Refused, Accepted}
 use Rattle.batch_listing.specs.Listing.{accepted, body, charged, decision, decision_by, section, section_with}
@@ -33,11 +33,11 @@ payer_of (Refused reserve balance) = 0
 payer_of (Accepted account) = account
 
 -- a balance that covers the reserve of a job covers its charge
-pub charge_covered : (job : JobView) (most balance payer account : ℕ) (balances : List ℕ) → 1 ≤ job.lines → most ≡ reserve job → balance ≡ slice_index balances payer → most ≤ balance → Accepted payer ≡ Accepted account
-    → charge (narrow_result job).counts ≤ slice_index balances account
-charge_covered job most balance payer account balances lines is_most is_balance covers is =
-    let price = charge (narrow_result job).counts in
-    let within : price ≤ most = rw is_most (narrow_within job lines).1 in
+pub charge_covered : (job : JobView) (most balance payer account : ℕ) (balances : List ℕ) → most ≡ reserve job → balance ≡ slice_index balances payer → most ≤ balance → Accepted payer ≡ Accepted account
+    → charge (job_result job).counts ≤ slice_index balances account
+charge_covered job most balance payer account balances is_most is_balance covers is =
+    let price = charge (job_result job).counts in
+    let within : price ≤ most = rw is_most (job_within job).1 in
     let there : balance ≡ slice_index balances account = is_balance ∙ ap (λ (n : ℕ). slice_index balances n) (ap payer_of is) in
     rw (← there) (le_trans within covers)
 
@@ -58,9 +58,9 @@ settled_by_decision balances job = settled_on job.flaw job.account (reserve job)
 
 -- where a job is accepted, the account that pays is lowered by its charge
 pub settled_accepted : (balances : List ℕ) (job same : JobView) (account : ℕ) → decision (slice_index balances) job ≡ Accepted account → same ≡ job
-    → lowered balances (Some account) (charge (narrow_result same).counts) ≡ settled balances (charged job)
+    → lowered balances (Some account) (charge (job_result same).counts) ≡ settled balances (charged job)
 settled_accepted balances job same account is equal =
-    ap (λ (j : JobView). lowered balances (Some account) (charge (narrow_result j).counts)) equal
+    ap (λ (j : JobView). lowered balances (Some account) (charge (job_result j).counts)) equal
     ∙ sym (ap (λ (d : Decision). settled_by d balances (charged job).1) is)
     ∙ settled_by_decision balances job
 

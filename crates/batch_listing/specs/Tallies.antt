@@ -6,7 +6,7 @@ use Rattle.account_book.specs.BookView.{openings_of}
 use Rattle.account_book.specs.Places.{place_balance}
 use Rattle.algolw_meaning.specs.declared.ending.Ending.{Ending}
 use Rattle.algolw_meaning.specs.declared.ending.Ending.TheVariants as ending
-use Rattle.algolw_meaning.specs.Meaning.{narrow_result}
+use Rattle.algolw_meaning.specs.Running.{job_result}
 use Rattle.batch_summary.specs.declared.tally.Entry.{Entry}
 use Rattle.batch_summary.specs.declared.tally.Outcome.{Outcome}
 use Rattle.batch_summary.specs.declared.tally.Outcome.TheVariants as outcome
@@ -27,7 +27,7 @@ ended_so ending.Diagnosed = outcome.Diagnosed
 abbrev pub outcome_by : Decision → JobView → Outcome
 outcome_by (Flawed flaw) job = outcome.Refused
 outcome_by (Refused reserve balance) job = outcome.Refused
-outcome_by (Accepted account) job = ended_so (narrow_result job).ending
+outcome_by (Accepted account) job = ended_so (job_result job).ending
 
 -- what a job is charged, by what was decided of it
 abbrev pub price_by : Decision → JobView → ℕ

@@ -3,7 +3,7 @@ ghost use Rattle.deck_reader.specs.JobView.{JobView};
 ghost use Rattle.account_book.specs.BookView.{openings_of};
 ghost use Rattle.account_book.specs.Charges.{charge};
 ghost use Rattle.account_book.specs.Places.{claim_of, is_accepted, lowered, settled};
-ghost use Rattle.algolw_meaning.specs.Meaning.{narrow_result};
+ghost use Rattle.algolw_meaning.specs.Running.{job_result};
 ghost use Rattle.batch_listing.specs.Texts.{closing};
 ghost use Rattle.batch_listing.specs.Listing.{accepted, body, charged, closing_lines, decision, section};
 ghost use Rattle.batch_listing.specs.Behind.{Fits, IsBehind};
@@ -172,14 +172,14 @@ impl Audit {
         account: u32,
         ended: &Ended,
     ) -> Result<(), AllocError>
-        requires { charge (narrow_result ended.now.job).counts ≤ slice_index self.old.book.balances account }
-        ensures text { OnOk result (out.new.items ≡ out.old.items ++ (narrow_result ended.now.job).body) }
+        requires { charge (job_result ended.now.job).counts ≤ slice_index self.old.book.balances account }
+        ensures text { OnOk result (out.new.items ≡ out.old.items ++ (job_result ended.now.job).body) }
         ensures book { OnOk result (self.new.book.balances
-            ≡ lowered self.old.book.balances (Some account) (charge (narrow_result ended.now.job).counts)) }
+            ≡ lowered self.old.book.balances (Some account) (charge (job_result ended.now.job).counts)) }
         ensures accounts { self.new.book.accounts ≡ self.old.book.accounts }
         ensures tally { OnOk result (self.new.tally ≡ tally_with self.old.tally (record {
-          outcome = ended_so (narrow_result ended.now.job).ending;
-          charge = charge (narrow_result ended.now.job).counts;
+          outcome = ended_so (job_result ended.now.job).ending;
+          charge = charge (job_result ended.now.job).counts;
           bytes = length out.new.items;
         })) }
         ensures reruns { self.new.reruns ≡ self.old.reruns }

@@ -1,6 +1,6 @@
 ghost use Rattle.std.specs.Prelude.{◌≡◌, ◌≤◌, ℕ, slice_index};
 ghost use Rattle.account_book.specs.Charges.{charge};
-ghost use Rattle.algolw_meaning.specs.Meaning.{narrow_result};
+ghost use Rattle.algolw_meaning.specs.Running.{job_result};
 ghost use Rattle.batch_listing.specs.Listing.{decision};
 
 use account_book::{Book, reserve_of};
@@ -21,7 +21,7 @@ pub enum Decision {
 pub fn decide(book: &Book, job: &Job) -> Decision
     ensures decision { result ≡ decision (slice_index book.now.balances) job.now }
     ensures covered { (account : ℕ) → result ≡ Decision.Accepted account
-        → charge (narrow_result job.now).counts ≤ slice_index book.now.balances account }
+        → charge (job_result job.now).counts ≤ slice_index book.now.balances account }
 {
     let reserve = reserve_of(job);
     match (job.flaw, job.account) {

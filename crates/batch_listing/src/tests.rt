@@ -72,7 +72,7 @@ fn jobs_of(alloc: Global, batch: Batch) -> Result<Vec<Arc<Job>>, AllocError> {
 fn result_of(alloc: Global, job: Option<&Arc<Job>>) -> Result<Option<Brought>, AllocError> {
     match job {
         Some(job) if job.flaw.is_none() => {
-            let ended = run_job(alloc, &mut Desk::new()?, job)?;
+            let ended = run_job(alloc, &mut Desk::new(alloc)?, job)?;
             Ok(Some(Brought::Ended(ended)))
         }
         _ => Ok(None),
@@ -117,7 +117,7 @@ fn a_section_is_that_of_its_place_whatever_is_brought(rt: HostRuntime) -> Result
         let stray = batch.stray;
         let jobs = jobs_of(alloc, batch)?;
         let mut audit = Audit::new(book)?;
-        let mut desk = Desk::new()?;
+        let mut desk = Desk::new(alloc)?;
         let mut listing = Vec::from_slice(alloc, heading())?;
         for (place, job) in jobs.iter().enumerate() {
             let brought = brought(alloc, bring, jobs.as_slice(), place)?;

@@ -1,2 +1,5 @@
-pub mod Terms
-pub mod Appends
+pub mod Noted
+pub mod Firsts
+pub mod Printed
+pub mod Compiling
+pub mod Ran

@@ -1,0 +1,5 @@
+pub mod Compiled
+pub mod Counted
+pub mod Noting
+pub mod Sections
+pub mod Shown

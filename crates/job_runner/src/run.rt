@@ -1,64 +1,75 @@
-ghost use Rattle.std.specs.Prelude.{◌≡◌, ◌≤◌, ◌++◌, None, IfOk, OnOk, length};
+ghost use Rattle.std.specs.Prelude.{◌≡◌, ◌≢◌, ◌≤◌, [], None, IfOk, length};
 ghost use Rattle.account_book.specs.Charges.{charge, reserve};
-ghost use Rattle.algolw_meaning.specs.Texts.{source_lines, diagnostic_lines};
-ghost use Rattle.algolw_meaning.specs.Meaning.{narrow_result, diagnosed, counts_of, ran_body, diagnosed_body};
+ghost use Rattle.stack_code.specs.CodeView.{code_view};
+ghost use Rattle.stack_code.specs.GoingOn.{FitCode};
+ghost use Rattle.stack_machine.specs.Desks.{IsPrepared, shown_by};
+ghost use Rattle.stack_machine.specs.Runs.{ComesTo};
+ghost use Rattle.algolw_meaning.specs.Meaning.{shown_diagnostics};
+ghost use Rattle.algolw_meaning.specs.Running.{setting_of};
+ghost use Rattle.algolw_meaning.specs.declared.ending.Ending.TheVariants as how;
+ghost use Rattle.job_runner.specs.Compiled.{IsCodeOf};
+ghost use Rattle.job_runner.specs.Shown.{ShowsRun};
 
-use crate::deck::{NOT_BY_NOW, SUM_STEPS, shown_diagnostics, sum_of_job};
-use crate::text;
+use crate::deck::{Compiled, compile_deck};
+use crate::section::{diagnosed_section, ending_of, run_section, used};
 use account_book::Counts;
 use algolw_meaning::{Ended, Ending};
-use deck_reader::{Card, Job};
+use deck_reader::Job;
+use stack_code::Code;
+use stack_machine::{Desk, Limits, Outcome, run};
 use std::alloc::{AllocError, Global};
 use std::sync::Arc;
 use value_ops::Diagnostic;
 
-/// A place to run jobs at, one after the other. It keeps what the last one took.
-#[derive(Drop)]
-pub struct Desk {
-    steps: u32,
-}
-
-impl Desk {
-    /// A desk at which no job was run.
-    pub fn new() -> Result<Desk, AllocError>
-        ensures { IfOk result (λ desk. desk.steps ≡ 0) }
-    {
-        Ok(Desk { steps: 0 })
-    }
-
-    /// The steps that the last job took.
-    pub fn steps(&self) -> u32
-        ensures { result ≡ self.now.steps }
-    {
-        self.steps
-    }
-}
-
-/// Runs a job without a flaw at a desk, which then has the job's steps. The job's charge is at most its reserve. Where
-/// memory is wanting, the desk may be used again.
+/// Runs a job without a flaw at a desk, whatever that ran before. The desk then shows the job's steps and, where the job
+/// isn't diagnosed, how often each statement was begun, the lines that were printed, and the dump. The job's charge is at
+/// most its reserve. Where memory is wanting, the desk may be used again.
 pub fn run_job(alloc: Global, desk: &mut Desk, job: &Arc<Job>) -> Result<Ended, AllocError>
     requires { job.now.value.flaw ≡ None }
     ensures same { IfOk result (λ e. e.job ≡ job.now.value) }
     ensures within { IfOk result (λ e. charge e.counts ≤ reserve e.job) }
-    ensures steps { IfOk result (λ e. desk.new.steps ≡ e.counts.steps) }
+    ensures steps { IfOk result (λ e. (shown_by desk.new).steps ≡ e.counts.steps) }
+    ensures shown { IfOk result (λ e. e.ending ≢ how.Diagnosed → ShowsRun e.job (shown_by desk.new)) }
 {
-    let faults = shown_diagnostics(alloc, job.deck.as_slice())?;
-    if !faults.is_empty() {
-        return diagnose(alloc, desk, job, faults.as_slice());
+    match compile_deck(alloc, job.deck.as_slice())? {
+        Compiled::Code(code) => run_code(alloc, desk, job, &code),
+        Compiled::Diagnosed(faults) => diagnose(alloc, desk, job, faults.as_slice()),
     }
-    match sum_of_job(alloc, job)? {
-        Some((sum, card)) => {
-            let counts = Counts {
-                cards: job.cards,
-                steps: SUM_STEPS,
-                lines: 1,
-            };
-            let body = write_ran(alloc, card, sum, counts)?;
-            desk.steps = counts.steps;
-            Ok(Ended::new(job.clone()?, body, counts, Ending::Normal))
-        }
-        None => diagnose(alloc, desk, job, &[NOT_BY_NOW]),
-    }
+}
+
+/// Runs a job by the code of its deck.
+fn run_code(
+    alloc: Global,
+    desk: &mut Desk,
+    job: &Arc<Job>,
+    code: &Code,
+) -> Result<Ended, AllocError>
+    requires cards { length job.now.value.deck ≤ 2000 }
+    requires most { job.now.value.steps ≤ 10000000 }
+    requires code { IsCodeOf job.now.value.deck code.now }
+    ensures same { IfOk result (λ e. e.job ≡ job.now.value) }
+    ensures within { IfOk result (λ e. charge e.counts ≤ reserve e.job) }
+    ensures steps { IfOk result (λ e. (shown_by desk.new).steps ≡ e.counts.steps) }
+    ensures shown { IfOk result (λ e. ShowsRun e.job (shown_by desk.new)) }
+{
+    desk.prepare(code)?;
+    let outcome = run_prepared(desk, job, code);
+    let body = run_section(alloc, job, code, desk, outcome)?;
+    let counts = used(job, desk);
+    Ok(Ended::new(job.clone()?, body, counts, ending_of(outcome)))
+}
+
+/// Runs code at a desk that is prepared for it, with the job's data and limits.
+fn run_prepared(desk: &mut Desk, job: &Job, code: &Code) -> Outcome
+    requires prepared { IsPrepared code.now desk.old }
+    requires fit { FitCode (code_view code.now) }
+    ensures { ComesTo (setting_of job.now) code.now result (shown_by desk.new) }
+{
+    let limits = Limits {
+        steps: job.steps,
+        lines: job.lines,
+    };
+    run(desk, code, job.data_cards.as_slice(), limits)
 }
 
 /// Ends a job whose deck has these diagnostics. It takes no step.
@@ -69,68 +80,18 @@ fn diagnose(
     faults: &[Diagnostic],
 ) -> Result<Ended, AllocError>
     requires cards { length job.now.value.deck ≤ 2000 }
-    requires means { narrow_result job.now.value ≡ diagnosed faults.now job.now.value }
-    ensures job { IfOk result (λ e. e.job ≡ job.now.value) }
-    ensures counts { IfOk result (λ e. e.counts ≡ counts_of job.now.value.cards 0 0) }
-    ensures steps { IfOk result (λ e. desk.new.steps ≡ e.counts.steps) }
+    requires some { faults.now ≢ [] }
+    requires shown { faults.now ≡ shown_diagnostics job.now.value.deck }
+    ensures same { IfOk result (λ e. e.job ≡ job.now.value) }
+    ensures steps { IfOk result (λ e. (shown_by desk.new).steps ≡ e.counts.steps) }
+    ensures diagnosed { IfOk result (λ e. e.ending ≡ how.Diagnosed) }
 {
+    desk.clear();
     let counts = Counts {
         cards: job.cards,
         steps: 0,
         lines: 0,
     };
-    let body = write_diagnosed(alloc, job.deck.as_slice(), faults, counts)?;
-    desk.steps = counts.steps;
+    let body = diagnosed_section(alloc, job.deck.as_slice(), faults, counts)?;
     Ok(Ended::new(job.clone()?, body, counts, Ending::Diagnosed))
-}
-
-/// The body of a job whose card wrote this sum.
-fn write_ran(alloc: Global, card: &Card, sum: u64, counts: Counts) -> Result<Vec<u8>, AllocError>
-    ensures { IfOk result (λ v. v.items ≡ ran_body card.now sum counts) }
-{
-    let mut out = Vec::new(alloc);
-    text::push_source_line(&mut out, 1, Some(1), card)?;
-    text::push_line(&mut out, b"OUTPUT")?;
-    text::push_integer_line(&mut out, sum)?;
-    text::push_line(&mut out, b"ENDED NORMALLY")?;
-    text::push_sum_line(&mut out, counts)?;
-    Ok(out)
-}
-
-/// The body of a job whose deck has these diagnostics.
-fn write_diagnosed(
-    alloc: Global,
-    deck: &[Card],
-    faults: &[Diagnostic],
-    counts: Counts,
-) -> Result<Vec<u8>, AllocError>
-    requires { length deck.now ≤ 2000 }
-    ensures { IfOk result (λ v. v.items ≡ diagnosed_body deck.now faults.now counts) }
-{
-    let mut out = Vec::new(alloc);
-    push_source(&mut out, deck)?;
-    push_diagnostics(&mut out, faults)?;
-    text::push_sum_line(&mut out, counts)?;
-    Ok(out)
-}
-
-/// Adds the cards from the first on, with no counts.
-fn push_source(out: &mut Vec<u8>, deck: &[Card]) -> Result<(), AllocError>
-    requires { length deck.now ≤ 2000 }
-    ensures { OnOk result (out.new.items ≡ out.old.items ++ source_lines 1 deck.now) }
-{
-    for (i, card) in deck.iter().enumerate() {
-        text::push_source_line(out, i as u32 + 1, None, card)?;
-    }
-    Ok(())
-}
-
-/// Adds a line for each diagnostic.
-fn push_diagnostics(out: &mut Vec<u8>, faults: &[Diagnostic]) -> Result<(), AllocError>
-    ensures { OnOk result (out.new.items ≡ out.old.items ++ diagnostic_lines faults.now) }
-{
-    for fault in faults {
-        text::push_diagnostic_line(out, *fault)?;
-    }
-    Ok(())
 }

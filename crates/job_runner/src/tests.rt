@@ -1,7 +1,7 @@
 ghost use Rattle.algolw_scanner.specs.Laws.{IsDeck};
 ghost use Rattle.algolw_tree.specs.Programs.{IsEnded};
 
-use crate::deck::shown_diagnostics;
+use crate::deck::{Compiled, compile_deck};
 use crate::text::push_number;
 use algolw_parser::{Parsed, parse};
 use algolw_scanner::{Scanned, scan};
@@ -301,8 +301,10 @@ fn listed(alloc: Global, faults: &[Diagnostic]) -> Result<String, AllocError> {
 fn shown_of_cards(alloc: Global, cards: &[Card]) -> Result<String, AllocError>
     requires { IsDeck cards.now }
 {
-    let faults = shown_diagnostics(alloc, cards)?;
-    listed(alloc, faults.as_slice())
+    match compile_deck(alloc, cards)? {
+        Compiled::Diagnosed(faults) => listed(alloc, faults.as_slice()),
+        Compiled::Code(_) => Ok(String::new(alloc)),
+    }
 }
 
 /// The diagnostics of a deck that are shown, each behind a blank.

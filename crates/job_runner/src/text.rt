@@ -1,16 +1,13 @@
-ghost use Rattle.std.specs.Prelude.{◌≡◌, ◌≤◌, ◌++◌, ◌∷◌, [], IfSome, OnOk, decimal, length};
-ghost use Rattle.short_text.specs.Blanks.{right};
+ghost use Rattle.std.specs.Prelude.{◌≡◌, ◌≤◌, ◌++◌, IfSome, OnOk, decimal};
 ghost use Rattle.post_mortem.specs.Dump.{place_text};
-ghost use Rattle.algolw_meaning.specs.Texts.{line, source_line, sum_line, diagnostic_head, diagnostic_line};
+ghost use Rattle.program_meaning.specs.Results.{numbered_text};
+ghost use Rattle.algolw_meaning.specs.Texts.{line, source_line, sum_line, diagnostic_line};
 
 use account_book::{Counts, charge_of};
 use itoa::Buffer;
 use post_mortem::{place_line, source_line};
 use std::alloc::{AllocError, Global};
 use value_ops::{Card, Diagnostic, Place};
-
-/// The columns of an INTEGER that is printed.
-const INTEGER_WIDTH: usize = 14;
 
 /// Adds the decimal text of a number.
 pub fn push_number(out: &mut Vec<u8>, number: u64) -> Result<(), AllocError>
@@ -26,35 +23,6 @@ pub fn push_line(out: &mut Vec<u8>, text: &[u8]) -> Result<(), AllocError>
     ensures { OnOk result (out.new.items ≡ out.old.items ++ line text.now) }
 {
     out.extend_from_slice(text)?;
-    out.push(b'\n')?;
-    Ok(())
-}
-
-/// Adds a text with blanks before it, so that it fills a width.
-#[tactic(auto, using(std::proofs::lemmas::List::replicate_more))]
-fn push_right(out: &mut Vec<u8>, width: usize, text: &[u8]) -> Result<(), AllocError>
-    ensures { OnOk result (out.new.items ≡ out.old.items ++ right width text.now) }
-{
-    for blank in 0..width.saturating_sub(text.len()) {
-        out.push(b' ')?;
-    }
-    out.extend_from_slice(text)?;
-    Ok(())
-}
-
-/// Adds a number with blanks before it, so that it fills a width.
-fn push_number_right(out: &mut Vec<u8>, width: usize, number: u64) -> Result<(), AllocError>
-    ensures { OnOk result (out.new.items ≡ out.old.items ++ right width (decimal number)) }
-{
-    let mut buffer = Buffer::new();
-    push_right(out, width, buffer.format(number).as_bytes())
-}
-
-/// Adds a line with an INTEGER.
-pub fn push_integer_line(out: &mut Vec<u8>, number: u64) -> Result<(), AllocError>
-    ensures { OnOk result (out.new.items ≡ out.old.items ++ line (right 14 (decimal number))) }
-{
-    push_number_right(out, INTEGER_WIDTH, number)?;
     out.push(b'\n')?;
     Ok(())
 }
@@ -80,24 +48,30 @@ fn push_place(out: &mut Vec<u8>, place: Place) -> Result<(), AllocError>
     out.extend_from_slice(place_line(place).as_slice())
 }
 
-/// Adds the number of a diagnostic, and its place.
-#[tactic(auto, unfolding(algolw_meaning::specs::Texts::diagnostic_head))]
-fn push_diagnostic_head(out: &mut Vec<u8>, fault: Diagnostic) -> Result<(), AllocError>
-    ensures { OnOk result (out.new.items ≡ out.old.items ++ diagnostic_head fault) }
+/// Adds a line of a diagnostic, a fault or a limit: which of these it is, its number, its place and what it says.
+pub fn push_numbered_line(
+    out: &mut Vec<u8>,
+    word: &[u8],
+    number: u8,
+    place: Place,
+    text: &[u8],
+) -> Result<(), AllocError>
+    ensures { OnOk result (out.new.items ≡ out.old.items ++ line (numbered_text word.now number place text.now)) }
 {
-    out.extend_from_slice(b"DIAGNOSTIC ")?;
-    push_number(out, u64::from(fault.number))?;
+    out.extend_from_slice(word)?;
+    out.extend_from_slice(b" ")?;
+    push_number(out, u64::from(number))?;
     out.extend_from_slice(b" AT ")?;
-    push_place(out, fault.place)
+    push_place(out, place)?;
+    out.extend_from_slice(b": ")?;
+    push_line(out, text)
 }
 
 /// Adds the line of a diagnostic.
 pub fn push_diagnostic_line(out: &mut Vec<u8>, fault: Diagnostic) -> Result<(), AllocError>
     ensures { OnOk result (out.new.items ≡ out.old.items ++ diagnostic_line fault) }
 {
-    push_diagnostic_head(out, fault)?;
-    out.extend_from_slice(b": ")?;
-    push_line(out, fault.text())
+    push_numbered_line(out, b"DIAGNOSTIC", fault.number, fault.place, fault.text())
 }
 
 /// Adds the line with what a job used and its charge.

@@ -60,7 +60,7 @@ fn write_sections<K: Sink>(
     ensures read { IsErrOf result Stop.ReadFault → ⊥ }
     ensures large { IsErrOf result Stop.TooLarge → ⊥ }
 {
-    let mut desk = Desk::new()?;
+    let mut desk = Desk::new(alloc)?;
     for job in jobs {
         let job = Arc::new(alloc, job)?;
         let section = audit.section(alloc, &job, None, &mut desk)?;
@@ -107,7 +107,7 @@ fn tally_sections(alloc: Global, audit: &mut Audit, jobs: Vec<Job>) -> Result<()
     ensures accounts { audit.new.book.accounts ≡ audit.old.book.accounts }
     ensures tally { OnOk result (audit.new.tally ≡ sections_tally (openings_of audit.old.book.accounts) jobs.items) }
 {
-    let mut desk = Desk::new()?;
+    let mut desk = Desk::new(alloc)?;
     for job in jobs {
         let job = Arc::new(alloc, job)?;
         audit.section(alloc, &job, None, &mut desk)?;

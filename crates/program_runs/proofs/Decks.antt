@@ -42,7 +42,7 @@ code_of_programs_is_right x e d =
     record { fit = record { instructions = program_code_fits (program_phrase (program_of x)); runs = λ set. (runs set).run }; runs = runs }
 
 -- what the tokens of a deck spell, without faults
-spelled_is_right : (deck : List (List ℕ)) (x : Phrase) → HasProgram deck x → program_faults x ≡ [] → HasRightCode (program_phrase (program_of x))
+pub spelled_is_right : (deck : List (List ℕ)) (x : Phrase) → HasProgram deck x → program_faults x ≡ [] → HasRightCode (program_phrase (program_of x))
 spelled_is_right deck x (tokens, are, is) e = code_of_programs_is_right x e (trees_of_decks deck tokens x None are is.spelled)
 
 pub code_of_decks_is_right : CodeOfDecksIsRight
@@ -75,7 +75,7 @@ module _ (job : JobView) (statements : List Place) (code : Code) where
       ∙ ap (λ z. result_by (state_of r).pieces (state_of r).begun (state_of r).steps z (ending_of o)) e
       ∙ ap (λ z. result_by (state_of r).pieces (state_of r).begun (state_of r).steps (results.ending_text r ∷ meaning.dump_section r) z) f)
 
-  shown_result : (o : table.Outcome) (r : state.Outcome Closed Given) → Shows code o r → run_result job statements r ≡ table_result job statements code o
+  pub shown_result : (o : table.Outcome) (r : state.Outcome Closed Given) → Shows code o r → run_result job statements r ≡ table_result job statements code o
   shown_result (normal m) (on a s) x = same_result (normal m) (on a s) refl refl x
   shown_result (stopped y w m) (stop z v s) x =
       same_result (stopped y w m) (stop z v s)

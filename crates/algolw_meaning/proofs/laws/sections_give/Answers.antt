@@ -8,7 +8,7 @@ use Rattle.algolw_meaning.proofs.laws.sections_give.Goals as goal
 
 sections : SectionsGive
 unfolding deck_of deck_diagnostics diagnostic_head diagnostic_texts digits
-sections = record { sum = refl; narrow = refl; fault = refl; limit = refl; diagnosed = refl }
+sections = record { sum = refl; fault = refl; limit = refl; diagnosed = refl }
 
 pub returns : goal.returns
 returns c = sections

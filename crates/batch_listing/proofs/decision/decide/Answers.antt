@@ -1,10 +1,7 @@
-use Rattle.std.proofs.Common.{◌≤◌, subst}
-use Rattle.deck_reader.specs.JobView.{JobView}
 use Rattle.batch_listing.proofs.Deciding.{charge_covered}
 use Rattle.batch_listing.proofs.decision.decide.Goals as goal
 
 pub returns-then-balance-reserve-clause-covered : goal.returns-then-balance-reserve-clause-covered
 returns-then-balance-reserve-clause-covered c = λ account is.
-    let has_lines : JobView → Type 0 = λ job. 1 ≤ job.lines in
     charge_covered c.args.job.now c.reserve_of-reserve.result c.balance-balance.result c.in-None-Some.account account c.args.book.now.balances
-    (subst has_lines c.job.view_is c.job.invariant.2) c.reserve_of-reserve.ensures c.balance-balance.ensures c.if-balance-reserve.true is
+    c.reserve_of-reserve.ensures c.balance-balance.ensures c.if-balance-reserve.true is

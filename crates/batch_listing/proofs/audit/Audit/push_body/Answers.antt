@@ -1,14 +1,14 @@
 use Rattle.std.proofs.Common.{◌≡◌, ◌≤◌, List, ℕ, OnOk, slice_index, ◌∙◌, sym, subst, ap}
 use Rattle.deck_reader.specs.JobView.{JobView}
 use Rattle.account_book.specs.Charges.{charge}
-use Rattle.algolw_meaning.specs.Meaning.{narrow_result}
+use Rattle.algolw_meaning.specs.Running.{job_result}
 use Rattle.batch_listing.specs.Listing.{decision}
 use Rattle.batch_listing.proofs.Deciding.{settled_accepted}
 use Rattle.batch_listing.proofs.audit.Audit.push_body.Goals as goal
 
 pub push_ended-requires : goal.push_ended-requires
 push_ended-requires c =
-    let covered : JobView → Type 0 = λ job. charge (narrow_result job).counts ≤ slice_index c.args.self.now.book.balances c.in-Accepted.account in
+    let covered : JobView → Type 0 = λ job. charge (job_result job).counts ≤ slice_index c.args.self.now.book.balances c.in-Accepted.account in
     subst covered (c.deref.ensures ∙ sym c.deref-in-Accepted.ensures ∙ sym c.in-Some.ensures.equal) (c.decide.ensures.covered c.in-Accepted.account c.in-Accepted.is)
 
 pub returns-in-Some-clause-book : goal.returns-in-Some-clause-book

@@ -1,0 +1,7 @@
+pub mod Codable
+pub mod Operations
+pub mod Listed
+pub mod Names
+pub mod Calls
+pub mod Blocks
+pub mod Programs

@@ -1,0 +1,34 @@
+ghost use Rattle.std.specs.Prelude.{◌≡◌, ◌<◌, length};
+ghost use Rattle.algolw_typing.specs.Types as types;
+ghost use Rattle.value_ops.specs.declared.values.SimpleType.TheVariants as SimpleType;
+ghost use Rattle.stack_code.specs.CodeView.{GivenFits, KindFits, kind_view};
+
+use stack_code::Code;
+use value_ops::{SetId, SimpleType};
+
+/// Whether two types are the same.
+pub(crate) fn is_same(code: &Code, one: SimpleType, other: SimpleType) -> bool
+    requires whole { GivenFits code.now.given }
+    requires one { KindFits code.now.given one }
+    requires other { KindFits code.now.given other }
+    ensures { result ≡ types.is_same (kind_view code.now.given one) (kind_view code.now.given other) }
+{
+    match (one, other) {
+        (SimpleType::Integer, SimpleType::Integer)
+        | (SimpleType::Logical, SimpleType::Logical)
+        | (SimpleType::Bits, SimpleType::Bits) => true,
+        (SimpleType::Str(one), SimpleType::Str(other)) => one == other,
+        (SimpleType::Reference(one), SimpleType::Reference(other)) => is_same_set(code, one, other),
+        _ => false,
+    }
+}
+
+/// Whether two sets have the same classes.
+fn is_same_set(code: &Code, one: SetId, other: SetId) -> bool
+    requires whole { GivenFits code.now.given }
+    requires one { one.0 < length code.now.given.classes.sets }
+    requires other { other.0 < length code.now.given.classes.sets }
+    ensures { result ≡ types.is_same (kind_view code.now.given (SimpleType.Reference one)) (kind_view code.now.given (SimpleType.Reference other)) }
+{
+    code.set_classes(one) == code.set_classes(other)
+}
