@@ -1,9 +1,10 @@
-mod Charges
-mod Bounds
-mod Stages
-mod Steps
-mod Money
+pub mod Charges
+pub mod Bounds
+pub mod Stages
+pub mod Steps
+pub mod Money
 mod Running
 mod Written
-mod Lists
+pub mod Lists
 mod Listed
+pub mod Journals

@@ -27,7 +27,7 @@ have_arrived (End number charge ∷ events) core =
 have_arrived (Print number ∷ events) core = have_arrived events (step core (Print number))
 
 -- one more number
-one_more : (a n : ℕ) → range_with_len a (n + 1) ≡ range_with_len a n ++ (a + n) ∷ []
+pub one_more : (a n : ℕ) → range_with_len a (n + 1) ≡ range_with_len a n ++ (a + n) ∷ []
 one_more a n =
     sym (map-id (range_with_len a (n + 1))) ∙ map-range_with_len_more (λ x. x) a n (a + n) refl ∙ ap (λ (front : List ℕ). front ++ (a + n) ∷ []) (map-id (range_with_len a n))
 

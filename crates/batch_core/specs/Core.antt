@@ -1,5 +1,5 @@
 -- A batch while its jobs are admitted: how far each job is, and what that leaves of each account.
-use Rattle.std.specs.Prelude.{ℕ, ◌-◌, List, [], None, if◌then◌else◌, sum_by, slice_index, slice_index_or}
+use Rattle.std.specs.Prelude.{ℕ, ◌-◌, List, [], Option, None, option_map, slice_get, if◌then◌else◌, sum_by, slice_index, slice_index_or}
 use Rattle.account_book.specs.Places.{is_on}
 use Rattle.batch_core.specs.declared.job.Claim.{Claim}
 use Rattle.batch_core.specs.declared.job.Stage.{Stage}
@@ -28,6 +28,10 @@ no_job = arrived (record { account = None; reserve = 0; cards = 0 })
 -- the job at a place, which is how many jobs are before it; its number is one more
 abbrev pub job_at : Core → ℕ → JobState
 job_at core place = slice_index_or core.jobs place no_job
+
+-- how far it is, where one is there
+abbrev pub stage_at : Core → ℕ → Option Stage
+stage_at core place = option_map (λ job. job.stage) (slice_get core.jobs place)
 
 -- the charge of a job that has ended
 abbrev pub charged : Stage → ℕ

@@ -40,3 +40,7 @@ pub record Kept (core : Core) : Type 0 where
   pub order : (charges : List ℕ) → AreCharges core.jobs charges → (place : ℕ) → place < length core.jobs → Agrees (job_at core place).stage (accepted_at core charges place)
   -- and the balance at the place of the next undecided job is between the bounds
   pub bounds : (charges : List ℕ) → AreCharges core.jobs charges → (account : ℕ) → (low core account ≤ balance_at core charges core.decided account) × (balance_at core charges core.decided account ≤ high core account)
+
+-- each job that has arrived is over
+abbrev pub AllOver : Core → Type 0
+AllOver core = (place : ℕ) → place < length core.jobs → IsOver (job_at core place).stage

@@ -1,7 +1,7 @@
 ghost use Rattle.std.specs.Prelude.{◌≡◌, ◌↔◌, ◌<◌, ◌≤◌, ◌+◌, ◌-◌, IfOk, OnErr, IsTrue, length, slice_index};
 ghost use Rattle.batch_core.specs.declared.event.Event.TheVariants.{Arrive};
 ghost use Rattle.batch_core.specs.declared.job.Stage.TheVariants.{Refused, Outstanding};
-ghost use Rattle.batch_core.specs.Core.{start, job_at, low, high};
+ghost use Rattle.batch_core.specs.Core.{start, job_at, stage_at, low, high};
 ghost use Rattle.batch_core.specs.Events.{Allowed, AlwaysCovers, NeverCovers, MayArrive, MayAccept, MayRefuse, MayEnd, MayPrint, IsStep, add, decide, finish, print, step};
 
 use crate::event::Event;
@@ -50,6 +50,41 @@ impl CoreState {
             decided: 0,
             printed: 0,
         })
+    }
+
+    /// How many accounts there are.
+    pub fn accounts(&self) -> usize
+        ensures { result ≡ length self.now.openings }
+    {
+        self.openings.len()
+    }
+
+    /// How many jobs have arrived.
+    pub fn arrived(&self) -> usize
+        ensures { result ≡ length self.now.jobs }
+    {
+        self.jobs.len()
+    }
+
+    /// How many jobs are decided: so many of the first.
+    pub fn decided(&self) -> usize
+        ensures { result ≡ self.now.decided }
+    {
+        self.decided
+    }
+
+    /// How many jobs are printed: so many of the first.
+    pub fn printed(&self) -> usize
+        ensures { result ≡ self.now.printed }
+    {
+        self.printed
+    }
+
+    /// How far the job at a place is, where one is there. The place is how many jobs arrived before it.
+    pub fn stage(&self, place: usize) -> Option<Stage>
+        ensures { result ≡ stage_at self.now place }
+    {
+        self.jobs.get(place).map(|job| job.stage)
     }
 
     /// The least that the outstanding jobs can leave of an account: its opening less what its ended jobs were charged
@@ -109,7 +144,8 @@ impl CoreState {
         place < self.jobs.len() && self.jobs[place].may_end(charge)
     }
 
-    fn may_print(&self) -> bool
+    /// Whether the next unprinted job is over.
+    pub fn may_print(&self) -> bool
         ensures { IsTrue result ↔ MayPrint self.now }
     {
         self.printed < self.jobs.len() && self.jobs[self.printed].is_over()

@@ -14,8 +14,10 @@ pub struct Claim {
 
 /// How far a job is.
 #[derive(Clone, Copy, Debug)]
-pub(crate) enum Stage {
+pub enum Stage {
+    /// Nothing is decided of it.
     Undecided,
+    /// It was refused.
     Refused,
     /// It was accepted, and what it will be charged isn't known.
     Outstanding,

@@ -10,7 +10,7 @@ mod tests;
 
 pub use admission::CoreState;
 pub use event::Event;
-pub use job::Claim;
+pub use job::{Claim, Stage};
 pub use laws::{
     complete_lists_print_in_order, events_keep, jobs_have_arrived, legal_lists_keep_order,
     money_adds_up, reachable_states_keep, stages_as_listed,

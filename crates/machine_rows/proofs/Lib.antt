@@ -10,6 +10,7 @@ pub mod Parted
 pub mod Fields
 pub mod Storing
 pub mod AssignRows
+pub mod ReadyRows
 pub mod GiveRows
 pub mod Printing
 pub mod Making

@@ -1,5 +1,5 @@
 -- What holds behind a run that has ended so.
-use Rattle.std.proofs.Common.{◌≡◌, ◌⊎◌, ℕ, [], List, Option, Some, None, Result, Ok, Err, OnOk, OnErr, IfSome, refl, ap, sym, ◌∙◌, subst, inl, inr, false}
+use Rattle.std.proofs.Common.{◌≡◌, ◌⊎◌, ℕ, [], List, Option, Some, None, Result, Ok, Err, OnOk, OnErr, IfSome, refl, ap, subst, inl, inr, false}
 use Rattle.std.specs.Io.KnownBytes.{Appends, Consumes}
 use Rattle.deck_reader.specs.Batch.{too_large}
 use Rattle.batch_listing.specs.Listing.{listing}

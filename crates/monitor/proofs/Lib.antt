@@ -1,5 +1,3 @@
 pub mod Endings
 pub mod Known
 pub mod SaidOrders
-pub mod Streaming
-pub mod Summaries

@@ -2,6 +2,8 @@
 use Rattle.std.specs.Prelude.{ℕ, Result, Ok, Err}
 use Rattle.deck_reader.specs.declared.reader.FeedError.{FeedError}
 use Rattle.deck_reader.specs.declared.reader.FeedError.TheVariants as feed
+use Rattle.batch_runner.specs.declared.halt.Halt.{Halt}
+use Rattle.batch_runner.specs.declared.halt.Halt.TheVariants as halt
 use Rattle.monitor.specs.declared.stop.Stop.{Stop}
 use Rattle.monitor.specs.declared.stop.Stop.TheVariants as stop
 use Rattle.monitor.specs.declared.top.Status.{Status}
@@ -10,6 +12,10 @@ use Rattle.monitor.specs.declared.top.Status.TheVariants as status
 abbrev pub stop_of : FeedError → Stop
 stop_of feed.TooLarge = stop.TooLarge
 stop_of feed.NoMemory = stop.NoMemory
+
+abbrev pub stop_after : Halt → Stop
+stop_after halt.NoMemory = stop.NoMemory
+stop_after halt.WriteFault = stop.WriteFault
 
 abbrev pub status_of : Stop → Status
 status_of stop.NoMemory = status.NoMemory

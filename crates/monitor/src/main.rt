@@ -1,13 +1,14 @@
 // Reads a batch of cards from standard input, runs its jobs, and writes the listing to standard output.
 #![tactic(auto)]
 
-mod listing;
 mod made;
 mod reading;
 mod stop;
 #[cfg(test)]
 mod tests;
 mod top;
+#[cfg(test)]
+mod worker_tests;
 
 use crate::top::{Status, run_monitor};
 use batch_io::{OpenGate, StdSink, StdSource};
@@ -22,6 +23,7 @@ fn main(rt: HostRuntime) -> ExitCode {
             let mut source = StdSource::new(rt.stdin());
             let mut sink = StdSink::new(rt.stdout());
             run_monitor(
+                &rt,
                 rt.alloc(),
                 words.as_slice(),
                 &mut source,

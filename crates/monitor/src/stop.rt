@@ -1,4 +1,5 @@
 use batch_io::{ReadFailed, WriteFailed};
+use batch_runner::Halt;
 use deck_reader::FeedError;
 use std::alloc::{AllocError, AllocFailed};
 
@@ -69,6 +70,20 @@ impl From<FeedError> for Stop {
         match error {
             FeedError::TooLarge => Stop::TooLarge,
             FeedError::NoMemory => Stop::NoMemory,
+        }
+    }
+}
+
+impl From<Halt> for Stop {
+    ghost use Rattle.std.specs.Prelude.{◌≡◌};
+    ghost use Rattle.monitor.specs.Status.{stop_after};
+
+    ghost from_gives = { λ halt stop. stop ≡ stop_after halt };
+
+    fn from(halt: Halt) -> Stop {
+        match halt {
+            Halt::NoMemory => Stop::NoMemory,
+            Halt::WriteFault => Stop::WriteFault,
         }
     }
 }

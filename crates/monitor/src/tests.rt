@@ -1,11 +1,13 @@
 use crate::top::{Status, run_monitor};
-use batch_io::{MemSink, MemSource, OpenGate};
+use batch_io::{Gate, MemSink, MemSource, OpenGate};
 use std::alloc::{AllocError, Global};
+use std::sync::Wait;
 use std::test::Fail;
+use std::thread::Threads;
 
 /// How the outside behaves in a run.
 #[derive(Clone, Copy)]
-struct Outside {
+pub(crate) struct Outside {
     /// The most bytes that a read or a write handles.
     piece: usize,
     /// The number of the read that fails.
@@ -35,11 +37,35 @@ fn call_numbers(alloc: Global, number: Option<u32>) -> Result<Vec<u32>, AllocErr
 }
 
 /// What a run answers and writes.
-fn run(
+fn run<R: Threads + Wait + Sync>(
+    rt: &R,
     alloc: Global,
     words: &[String],
     input: &[u8],
     outside: &Outside,
+) -> Result<(Status, Vec<u8>), AllocError> {
+    run_past(rt, alloc, words, input, outside, &OpenGate)
+}
+
+/// What a run with one worker answers and writes.
+fn run_alone<R: Threads + Wait + Sync>(
+    rt: &R,
+    alloc: Global,
+    input: &[u8],
+    outside: &Outside,
+) -> Result<(Status, Vec<u8>), AllocError> {
+    let words = words_of(alloc, "--workers 1")?;
+    run(rt, alloc, words.as_slice(), input, outside)
+}
+
+/// What a run answers and writes whose workers pass a gate.
+pub(crate) fn run_past<R: Threads + Wait + Sync, G: Gate>(
+    rt: &R,
+    alloc: Global,
+    words: &[String],
+    input: &[u8],
+    outside: &Outside,
+    gate: &G,
 ) -> Result<(Status, Vec<u8>), AllocError> {
     let piece = outside.piece.max(1);
     let mut source = MemSource::new(
@@ -50,7 +76,7 @@ fn run(
     );
     let failing = call_numbers(alloc, outside.failing_write)?;
     let mut sink = MemSink::new(alloc, piece, failing, outside.sink_stop)?;
-    let status = run_monitor(alloc, words, &mut source, &mut sink, &OpenGate);
+    let status = run_monitor(rt, alloc, words, &mut source, &mut sink, gate);
     let written = Vec::from_slice(alloc, sink.bytes())?;
     Ok((status, written))
 }
@@ -300,9 +326,9 @@ fn a_batch_has_its_listing(rt: HostRuntime) -> Result<(), Fail> {
         ("flaws and stray cards", MIXED, MIXED_LISTING),
     ];
     for (name, input, listing) in cases {
-        for piece in [1, 2, 3, 7, 4096] {
+        for piece in [1, 7, 4096] {
             let outside = Outside { piece, ..AMPLE };
-            let (status, written) = run(rt.alloc(), &[], input, &outside)?;
+            let (status, written) = run(&rt, rt.alloc(), &[], input, &outside)?;
             assert_eq!(rt; status, Status::Done, "{name}, by {piece}");
             assert_eq!(rt; written.as_slice(), listing, "{name}, by {piece}");
         }
@@ -316,8 +342,12 @@ fn first(bytes: &[u8], count: usize) -> &[u8] {
 }
 
 /// The listing of a batch, made with no fault.
-fn listing_of(alloc: Global, input: &[u8]) -> Result<Vec<u8>, AllocError> {
-    let (_, written) = run(alloc, &[], input, &AMPLE)?;
+fn listing_of<R: Threads + Wait + Sync>(
+    rt: &R,
+    alloc: Global,
+    input: &[u8],
+) -> Result<Vec<u8>, AllocError> {
+    let (_, written) = run_alone(rt, alloc, input, &AMPLE)?;
     Ok(written)
 }
 
@@ -329,14 +359,14 @@ fn a_stopped_source_leaves_a_prefix_of_the_listing_of_what_it_gave(
     rt: HostRuntime,
 ) -> Result<(), Fail> {
     for count in 0..=SUM.len() {
-        let given = listing_of(rt.alloc(), first(SUM, count))?;
+        let given = listing_of(&rt, rt.alloc(), first(SUM, count))?;
         for piece in PIECES {
             let outside = Outside {
                 piece,
                 source_stop: Some(count as u64),
                 ..AMPLE
             };
-            let (status, written) = run(rt.alloc(), &[], SUM, &outside)?;
+            let (status, written) = run_alone(&rt, rt.alloc(), SUM, &outside)?;
             assert_eq!(rt; status, Status::ReadFault, "{count}, by {piece}");
             assert!(rt;
                 given.starts_with(written.as_slice()),
@@ -357,7 +387,7 @@ fn a_stopped_sink_has_just_what_it_took(rt: HostRuntime) -> Result<(), Fail> {
                 sink_stop: count,
                 ..AMPLE
             };
-            let (status, written) = run(rt.alloc(), &[], SUM, &outside)?;
+            let (status, written) = run_alone(&rt, rt.alloc(), SUM, &outside)?;
             let taken = first(SUM_LISTING, count as usize);
             assert_eq!(rt; written.as_slice(), taken, "{count}, by {piece}");
             if taken.len() == SUM_LISTING.len() {
@@ -381,13 +411,13 @@ fn each_read_may_fail(rt: HostRuntime) -> Result<(), Fail> {
                 failing_read: Some(before + 1),
                 ..AMPLE
             };
-            let (status, written) = run(rt.alloc(), &[], SUM, &outside)?;
+            let (status, written) = run_alone(&rt, rt.alloc(), SUM, &outside)?;
             if before as usize >= reads {
                 assert_eq!(rt; status, Status::Done, "{before}, by {piece}");
                 break;
             }
             assert_eq!(rt; status, Status::ReadFault, "{before}, by {piece}");
-            let given = listing_of(rt.alloc(), first(SUM, before as usize * piece))?;
+            let given = listing_of(&rt, rt.alloc(), first(SUM, before as usize * piece))?;
             assert!(rt;
                 given.starts_with(written.as_slice()),
                 "{before}, by {piece}"
@@ -407,7 +437,7 @@ fn each_write_may_fail(rt: HostRuntime) -> Result<(), Fail> {
                 failing_write: Some(before + 1),
                 ..AMPLE
             };
-            let (status, written) = run(rt.alloc(), &[], SUM, &outside)?;
+            let (status, written) = run_alone(&rt, rt.alloc(), SUM, &outside)?;
             assert!(rt;
                 SUM_LISTING.starts_with(written.as_slice()),
                 "{before}, by {piece}"
@@ -436,6 +466,7 @@ const WORDS: &str = "--help;--workers 0;--queue 3 --queue 3;--make 7;--jobs 1";
 fn words_are_refused(rt: HostRuntime) -> Result<(), Fail> {
     for list in WORDS.split(';') {
         let (status, written) = run(
+            &rt,
             rt.alloc(),
             words_of(rt.alloc(), list)?.as_slice(),
             SUM,
@@ -448,7 +479,7 @@ fn words_are_refused(rt: HostRuntime) -> Result<(), Fail> {
 }
 
 /// The words of a list, which blanks part.
-fn words_of(alloc: Global, list: &str) -> Result<Vec<String>, AllocError> {
+pub(crate) fn words_of(alloc: Global, list: &str) -> Result<Vec<String>, AllocError> {
     let mut words = Vec::new(alloc);
     for word in list.split(' ') {
         words.push(String::from_str(alloc, word)?)?;
@@ -474,13 +505,13 @@ fn a_made_batch_has_its_summary(rt: HostRuntime) -> Result<(), Fail> {
         ..AMPLE
     };
     let words = words_of(rt.alloc(), "--make 7 --jobs=1")?;
-    let (status, written) = run(rt.alloc(), words.as_slice(), SUM, &outside)?;
+    let (status, written) = run(&rt, rt.alloc(), words.as_slice(), SUM, &outside)?;
     assert_eq!(rt; status, Status::Done);
     assert_eq!(rt; written.as_slice(), MADE);
     Ok(())
 }
 
-const WIDE: Outside = Outside {
+pub(crate) const WIDE: Outside = Outside {
     piece: 65_536,
     sink_stop: 200_000,
     ..AMPLE
@@ -492,10 +523,10 @@ fn the_most_jobs_are_read_and_one_more_are_too_many(rt: HostRuntime) -> Result<(
     for _ in 0..2_000_u32 {
         heads.extend_from_slice(b"%JOB A,ADA\n")?;
     }
-    let (status, _) = run(rt.alloc(), &[], heads.as_slice(), &WIDE)?;
+    let (status, _) = run_alone(&rt, rt.alloc(), heads.as_slice(), &WIDE)?;
     assert_eq!(rt; status, Status::Done);
     heads.extend_from_slice(b"%job")?;
-    let (status, written) = run(rt.alloc(), &[], heads.as_slice(), &WIDE)?;
+    let (status, written) = run_alone(&rt, rt.alloc(), heads.as_slice(), &WIDE)?;
     assert_eq!(rt; status, Status::TooLarge);
     assert_eq!(rt; written.len(), 0);
     Ok(())

@@ -5,13 +5,15 @@ ghost use Rattle.monitor.specs.Orders.{SaysMake, SaysNothing, SaysRun};
 ghost use Rattle.monitor.specs.Outcome.{IsDone, IsCutShort, IsMade, IsTooLarge};
 ghost use Rattle.monitor.specs.Status.{number_of, status_after};
 
-use crate::listing::write_listing;
 use crate::made::run_made;
 use crate::reading::read_all;
 use crate::stop::Stop;
 use batch_io::{Gate, Sink, Source};
+use batch_runner::{Staff, write_listing};
 use command_words::{Order, WordsError, read_words};
 use std::alloc::Global;
+use std::sync::Wait;
+use std::thread::Threads;
 
 /// How a run ended.
 #[derive(Clone, Copy, Debug, PartialEq, Eq)]
@@ -63,13 +65,15 @@ impl From<Stop> for Status {
 }
 
 /// Does what the command words say: reads a batch, runs its jobs and writes the listing; or makes a batch, runs its jobs
-/// and writes the summary of its listing. The numbers of workers and of the queue's places have no effect.
-pub fn run_monitor<S: Source, K: Sink, G: Gate>(
+/// and writes the summary of its listing. So many workers run the jobs as the words say, in threads of their own but for one,
+/// and as many accepted jobs as they say may wait for them: no byte depends on these numbers, nor on what the workers do when.
+pub fn run_monitor<R: Threads + Wait + Sync, S: Source, K: Sink, G: Gate>(
+    rt: &R,
     alloc: Global,
     words: &[String],
     src: &mut S,
     sink: &mut K,
-    _gate: &G,
+    gate: &G,
 ) -> Status
     // Words that say nothing are refused, and no others are; then nothing is read or written.
     ensures bad { result ≡ Status.BadWords → SaysNothing (map string_bytes words.now) }
@@ -106,8 +110,21 @@ pub fn run_monitor<S: Source, K: Sink, G: Gate>(
         → IsMade seed jobs (K.written sink.old) (K.written sink.new) result × (src.new ≡ src.old) }
 {
     match read_words(alloc, words) {
-        Ok(Order::Run { .. }) => status_after(run_batch(alloc, src, sink)),
-        Ok(Order::Make { seed, jobs, .. }) => status_after(run_made(alloc, sink, seed, jobs)),
+        Ok(Order::Run { workers, queue }) => {
+            let staff = Staff::new(workers, queue);
+            status_after(run_batch(rt, alloc, src, sink, staff, gate))
+        }
+        Ok(
+            Order::Make {
+                seed,
+                jobs,
+                workers,
+                queue,
+            },
+        ) => {
+            let staff = Staff::new(workers, queue);
+            status_after(run_made(rt, alloc, sink, seed, jobs, staff, gate))
+        }
         Err(WordsError::BadWords) => Status::BadWords,
         Err(WordsError::NoMemory) => Status::NoMemory,
     }
@@ -124,7 +141,14 @@ fn status_after(ended: Result<(), Stop>) -> Status
 }
 
 /// Reads a batch, runs its jobs and writes its listing.
-fn run_batch<S: Source, K: Sink>(alloc: Global, src: &mut S, sink: &mut K) -> Result<(), Stop>
+fn run_batch<R: Threads + Wait + Sync, S: Source, K: Sink, G: Gate>(
+    rt: &R,
+    alloc: Global,
+    src: &mut S,
+    sink: &mut K,
+    staff: Staff,
+    gate: &G,
+) -> Result<(), Stop>
     ensures done { OnOk result (IsDone (S.left src.old) (S.left src.new) (K.written sink.old) (K.written sink.new)) }
     ensures cut { OnErr result
         (IsCutShort (S.left src.old) (S.left src.new) (K.written sink.old) (K.written sink.new)) }
@@ -135,5 +159,6 @@ fn run_batch<S: Source, K: Sink>(alloc: Global, src: &mut S, sink: &mut K) -> Re
 {
     let reader = read_all(alloc, src)?;
     let batch = reader.finish()?;
-    write_listing(alloc, sink, batch)
+    write_listing(rt, alloc, sink, batch, staff, gate)?;
+    Ok(())
 }

@@ -8,6 +8,9 @@ use Rattle.monitor.proofs.Endings.{nothing_written}
 use Rattle.monitor.proofs.Known.{at_err}
 use Rattle.monitor.proofs.made.run_made.Goals as goal
 
+pub returns-in_err-tally-clause-cut : goal.returns-in_err-tally-clause-cut
+returns-in_err-tally-clause-cut g c = at_err c.from_residual-in_err-tally.result (nothing_written (g.K.Sink.written c.args.sink.now) (made_summary c.args.seed c.args.jobs))
+
 pub returns-in_err-summary-clause-cut : goal.returns-in_err-summary-clause-cut
 returns-in_err-summary-clause-cut g c = at_err c.from_residual-in_err-summary.result (nothing_written (g.K.Sink.written c.args.sink.now) (made_summary c.args.seed c.args.jobs))
 

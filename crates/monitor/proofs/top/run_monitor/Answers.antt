@@ -2,11 +2,23 @@ use Rattle.std.proofs.Common.{Err, ap, refl}
 use Rattle.command_words.specs.declared.order.WordsError.{WordsError}
 use Rattle.batch_io.specs.Causes.{Rose}
 use Rattle.monitor.proofs.Endings.{after_left, made_after, nothing_done, nothing_made}
-use Rattle.monitor.proofs.SaidOrders.{jobs_in_range, not_made, not_run, said_as, same_made}
+use Rattle.monitor.proofs.SaidOrders.{jobs_in_range, make_in_range, not_made, not_run, run_in_range, said_as, same_made}
 use Rattle.monitor.proofs.top.run_monitor.Goals as goal
 
-pub run_made-requires : goal.run_made-requires
-run_made-requires g c = jobs_in_range _ _ _ _ _ (said_as c.in-Ok-Make.field-0-is c.in-Ok-Make.ensures.ok)
+pub new-staff-requires-clause-workers : goal.new-staff-requires-clause-workers
+new-staff-requires-clause-workers g c = (run_in_range _ _ _ (said_as c.in-Ok-Run.field-0-is c.in-Ok-Run.ensures.ok)).some
+
+pub new-staff-requires-clause-queue : goal.new-staff-requires-clause-queue
+new-staff-requires-clause-queue g c = (run_in_range _ _ _ (said_as c.in-Ok-Run.field-0-is c.in-Ok-Run.ensures.ok)).room
+
+pub new-staff-requires-in-Ok-Make-clause-workers : goal.new-staff-requires-in-Ok-Make-clause-workers
+new-staff-requires-in-Ok-Make-clause-workers g c = (make_in_range _ _ _ _ _ (said_as c.in-Ok-Make.field-0-is c.in-Ok-Make.ensures.ok)).some
+
+pub new-staff-requires-in-Ok-Make-clause-queue : goal.new-staff-requires-in-Ok-Make-clause-queue
+new-staff-requires-in-Ok-Make-clause-queue g c = (make_in_range _ _ _ _ _ (said_as c.in-Ok-Make.field-0-is c.in-Ok-Make.ensures.ok)).room
+
+pub run_made-requires-clause-few : goal.run_made-requires-clause-few
+run_made-requires-clause-few g c = λ _ _. jobs_in_range _ _ _ _ _ (said_as c.in-Ok-Make.field-0-is c.in-Ok-Make.ensures.ok)
 
 pub returns-in-Ok-Run-clause-complete : goal.returns-in-Ok-Run-clause-complete
 returns-in-Ok-Run-clause-complete g c = λ says.

@@ -1,0 +1,4 @@
+pub mod Progressing
+pub mod Results
+pub mod Streaming
+pub mod Summaries

@@ -1,0 +1,7 @@
+use Rattle.batch_runner.proofs.listing.serve.Given as goal
+
+abbrev pub ghosts-run_jobs-B-QueueBrand : goal.ghosts-run_jobs-B-QueueBrand
+ghosts-run_jobs-B-QueueBrand g a = record { table = a.fresh.ring.table.shared.table_id }
+
+abbrev pub ghosts-run_jobs-B-Ledger : goal.ghosts-run_jobs-B-Ledger
+ghosts-run_jobs-B-Ledger g a = record { name = a.fresh.blank.name; parts = a.fresh.blank.parts }

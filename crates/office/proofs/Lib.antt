@@ -1,0 +1,7 @@
+mod Stands
+mod Room
+mod Printing
+mod Running
+mod Slips
+mod Offices
+mod Exact

@@ -1,0 +1,19 @@
+use Rattle.std.proofs.Common.{◌≡◌, ◌+◌, ◌<◌, length, ◌∙◌, ap, subst, arith}
+use Rattle.crossbeam_queue.specs.Passes.{view}
+use Rattle.deck_reader.specs.JobView.{JobView}
+use Rattle.office.specs.Arrivals.{IsBelow}
+use Rattle.office.proofs.Offices.{fitting, kept_arrive}
+use Rattle.office.proofs.office.Office.arrive.Goals as goal
+
+pub invariant_of-self : goal.invariant_of-self
+invariant_of-self g c =
+    let s = c.self.inside in
+    let job : JobView = c.args.job.value in
+    let number : job.number ≡ length s.register.jobs + 1 =
+    let named : c.behind-job.inside.number ≡ job.number = ap (λ (j : JobView). j.number) (c.behind-job.view_is ∙ c.deref.ensures) in
+    omega (arith, named, c.from.ensures, c.if-from-next.false, c.arrived.ensures.value) in
+    let account : c.behind-job-else-from-next.inside.account ≡ job.account = ap (λ (j : JobView). j.account) (c.behind-job-else-from-next.view_is ∙ c.deref-else-from-next.ensures) in
+    let below : IsBelow c.accounts-accounts.result job.account = subst (IsBelow c.accounts-accounts.result) account (c.is_there.ensures.0 c.if-not-is_there.false) in
+    let few : length s.register.jobs < 4294967295 = omega (arith, number, c.arrived.ensures.value, c.arrived.ensures.few) in
+    let may = fitting s.register job c.accounts-accounts.result c.self.invariant.stands.register c.accounts-accounts.ensures below few in
+    kept_arrive _ (view s.put.pass).put job c.arrive.new.self c.arrive.result c.self.invariant may number c.arrive.ensures.arrived c.arrive.ensures.unchanged

@@ -1,0 +1,14 @@
+pub mod Claims
+pub mod Sums
+pub mod Tickets
+pub mod Register
+pub mod RegisterStands
+pub mod Registered
+pub mod Standings
+pub mod OfficeView
+pub mod StandsFor
+pub mod Prospects
+pub mod Answers
+pub mod Arrivals
+pub mod Kept
+pub mod Laws

@@ -1,0 +1,16 @@
+//! The office of a batch: the jobs that have arrived, what is decided of each, and the results of those that have ended.
+#![tactic(auto)]
+
+mod answers;
+mod laws;
+mod office;
+mod prospect;
+mod register;
+mod standing;
+#[cfg(test)]
+mod tests;
+
+pub use answers::{Admitted, ArriveError, Stranger};
+pub use laws::answers_are_exact;
+pub use office::Office;
+pub use standing::Standing;
