@@ -6,5 +6,5 @@ pub mod Money
 mod Running
 mod Written
 pub mod Lists
-mod Listed
+pub mod Listed
 pub mod Journals

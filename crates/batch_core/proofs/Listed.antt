@@ -141,7 +141,7 @@ either_at : (event other : Event) (events : List Event) (k : ℕ) → k < length
 either_at event other events zero within is = inl is
 either_at event other events (suc k) within is = let there : k < length events = omega (arith, within) in inr (k, there, is)
 
-either : (event other : Event) (events : List Event) → Contains (event ∷ events) other → (event ≡ other) ⊎ Contains events other
+pub either : (event other : Event) (events : List Event) → Contains (event ∷ events) other → (event ≡ other) ⊎ Contains events other
 either event other events (k, within, is) = either_at event other events k within is
 
 -- what a list of them does

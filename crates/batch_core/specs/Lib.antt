@@ -1,3 +1,4 @@
+pub mod Claims
 pub mod Core
 pub mod Events
 pub mod Order

@@ -1,4 +1,5 @@
 pub mod Progressing
 pub mod Results
-pub mod Streaming
+pub mod Serving
 pub mod Summaries
+pub mod Takings

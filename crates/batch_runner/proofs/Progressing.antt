@@ -1,21 +1,31 @@
--- How the sections of a batch are written one after the other.
-use Rattle.std.proofs.Common.{ℕ, ◌≡◌, ◌≤◌, ◌<◌, ◌+◌, ◌-◌, zero, suc, List, [], ◌∷◌, ◌++◌, Option, Some, None, length, map, take, drop, refl, sym, ap, subst, ◌∙◌, append_assoc, append-nil, arith}
-use Rattle.std.specs.Io.KnownBytes.{Appends}
-use Rattle.std.proofs.KnownBytes.{Appends-trans, Appends-nil}
-use Rattle.std.proofs.lemmas.List.{take-append-drop}
+-- How a batch is read on, and its sections are written one after the other.
+use Rattle.std.proofs.Common.{ℕ, ◌≡◌, ◌⊎◌, ◌≤◌, ◌<◌, ◌+◌, ◌-◌, zero, suc, true, List, [], ◌∷◌, ◌++◌, Option, Some, None, length, map, take, drop, refl, sym, ap, subst, ◌∙◌, append_assoc, append-nil, arith, inl, inr}
+use Rattle.std.specs.Io.KnownBytes.{Appends, Consumes, IsAtEnd}
+use Rattle.std.proofs.KnownBytes.{Appends-trans, Appends-nil, Consumes-trans}
+use Rattle.std.proofs.lemmas.List.{take-append-drop, length-append}
+use Rattle.deck_reader.specs.declared.batch.Account.{Account}
+use Rattle.deck_reader.specs.declared.batch.Batch.{Batch}
+use Rattle.deck_reader.specs.declared.reader.Reader.{Reader}
 use Rattle.deck_reader.specs.JobView.{JobView}
+use Rattle.deck_reader.specs.Batch.{batch, passes, too_large}
+use Rattle.deck_reader.proofs.Staying.{accounts_stay, jobs_stay, taken_and_kept}
 use Rattle.account_book.specs.BookView.{openings_of}
 use Rattle.batch_listing.specs.declared.audit.Audit.{Audit}
 use Rattle.batch_listing.specs.Behind.{IsBehind}
-use Rattle.batch_listing.specs.Listing.{section, sections}
+use Rattle.batch_listing.specs.Listing.{closing_lines, listing, section, sections}
 use Rattle.batch_listing.specs.Tallies.{sections_tally}
+use Rattle.batch_listing.specs.Texts.{heading, closing}
 use Rattle.batch_listing.specs.Writing.{AppendsPrefix, WroteUpTo}
 use Rattle.batch_listing.proofs.Sections.{sections_behind, sections_in_order}
-use Rattle.batch_listing.proofs.Written.{prefix_more, prefix_written}
-use Rattle.batch_runner.specs.declared.halt.Halt.{Halt}
+use Rattle.batch_listing.proofs.Written.{all_left, prefix_more, prefix_written}
 use Rattle.batch_io.specs.Causes.{Rose}
-use Rattle.batch_runner.specs.declared.halt.Halt.TheVariants.{NoMemory, WriteFault}
-use Rattle.batch_runner.specs.Progress.{Output, Progress, openings, HasWritten, HasHalted, HasCause, Standing, StandsSince, GoesOn, WroteAll, WroteSome}
+use Rattle.batch_runner.specs.declared.clerk.Docket.{Docket}
+use Rattle.batch_runner.specs.declared.halt.Halt.{Halt}
+use Rattle.batch_runner.specs.declared.halt.Halt.TheVariants.{NoMemory, ReadFault, WriteFault, TooLarge}
+use Rattle.batch_runner.specs.declared.intake.Intake.{Intake}
+use Rattle.batch_runner.specs.Outcome.{Outside, IsTooLarge, HasCause, HasHalted}
+use Rattle.batch_runner.specs.Progress.{Progress, openings, HasWritten, Standing, StandsSince, GoesOn, IsOpened, IsServed, begun, progress}
+use Rattle.batch_runner.specs.Taking.{Knows, HasRead, StopCause, ReadsOn, StopsReading, StopsFront, jobs_by}
 
 -- ---- the sections of a list of jobs that is cut
 
@@ -34,6 +44,162 @@ sections_split openings xs ys =
 
 pub sections_more : (openings : List ℕ) (xs : List JobView) (x : JobView) → sections openings (xs ++ x ∷ []) ≡ sections openings xs ++ section openings xs x
 sections_more openings xs x = sections_split openings xs (x ∷ []) ∙ ap (λ (text : List ℕ). sections openings xs ++ text) (append-nil (section openings xs x))
+
+-- ---- what was read tells of the whole
+
+-- the jobs by now are the first ones of any whole, and the accounts are those of it
+record IsFront (accounts : List Account) (jobs : List JobView) (whole : List ℕ) : Type 0 where
+  rest : List JobView
+  jobs_are : (batch whole).jobs ≡ jobs ++ rest
+  accounts_are : (batch whole).accounts ≡ accounts
+
+front_of : (reader : Option Reader) (left : Option (List ℕ)) (accounts : List Account) (jobs : List JobView) (stray : ℕ) (input more whole : List ℕ) → whole ≡ input ++ more → ((reader ≡ None → ⊥) ⊎ (more ≡ []))
+    → Knows reader left accounts jobs stray input → IsFront accounts jobs whole
+front_of (Some reader) left accounts jobs stray input more whole is going knows =
+    let longer = jobs_stay input more in
+    let kept : List JobView = reader.reading.jobs in
+    record {
+      rest = kept ++ longer.0;
+      jobs_are =
+          ap (λ (bytes : List ℕ). (batch bytes).jobs) is
+          ∙ longer.1
+          ∙ ap (λ (js : List JobView). js ++ longer.0) (sym (taken_and_kept reader jobs input knows.0))
+          ∙ append_assoc jobs kept longer.0;
+      accounts_are = ap (λ (bytes : List ℕ). (batch bytes).accounts) is ∙ accounts_stay input more accounts knows.1;
+    }
+front_of None left accounts jobs stray input more whole is (inl going) knows = absurd (going refl)
+front_of None left accounts jobs stray input more whole is (inr none) knows =
+    let same : whole ≡ input = is ∙ ap (λ (bytes : List ℕ). input ++ bytes) none ∙ append-nil input in
+    record {
+      rest = [];
+      jobs_are = ap (λ (bytes : List ℕ). (batch bytes).jobs) same ∙ ap (λ (b : Batch). b.jobs) knows.2 ∙ sym (append-nil jobs);
+      accounts_are = ap (λ (bytes : List ℕ). (batch bytes).accounts) same ∙ ap (λ (b : Batch). b.accounts) knows.2;
+    }
+
+-- the closing lines of a batch
+abbrev pub closing_of : Batch → List ℕ
+closing_of b = closing (closing_lines (openings_of b.accounts) b.jobs b.accounts) b.stray
+
+-- behind the sections of the first jobs stand those of the others, and the closing lines
+left_behind : (accounts : List Account) (jobs done others : List JobView) (whole : List ℕ) (front : IsFront accounts jobs whole) → jobs ≡ done ++ others
+    → (heading ++ sections (openings_of accounts) done) ++ (sections_behind (openings_of accounts) done (others ++ front.rest) ++ closing_of (batch whole)) ≡ listing whole
+left_behind accounts jobs done others whole front is =
+    let o = openings_of accounts in
+    let behind = sections_behind o done (others ++ front.rest) in
+    let b = batch whole in
+    let all : b.jobs ≡ done ++ (others ++ front.rest) = front.jobs_are ∙ ap (λ (js : List JobView). js ++ front.rest) is ∙ append_assoc done others front.rest in
+    sym (append_assoc (heading ++ sections o done) behind (closing_of b))
+    ∙ ap (λ (text : List ℕ). text ++ closing_of b)
+    (append_assoc heading (sections o done) behind
+    ∙ ap (λ (text : List ℕ). heading ++ text)
+    (sym (sections_split o done (others ++ front.rest)) ∙ ap (sections o) (sym all) ∙ ap (λ (xs : List Account). sections (openings_of xs) b.jobs) (sym front.accounts_are)))
+
+-- what is left to write of the listing of what was read, and of more
+still_left : (start : Outside) (p : Progress) (h : HasWritten start p) (done others : List JobView) (whole : List ℕ) (front : IsFront p.audit.book.accounts (jobs_by p.intake) whole)
+    → take p.written (jobs_by p.intake) ≡ done → drop p.written (jobs_by p.intake) ≡ others
+    → WroteUpTo start.written p.outside.written (listing whole) (sections_behind (openings p) done (others ++ front.rest) ++ closing_of (batch whole))
+still_left start p h done others whole front taken dropped = record {
+  done = heading ++ sections (openings p) done;
+  wrote = subst (λ (js : List JobView). Appends start.written p.outside.written (heading ++ sections (openings p) js)) taken h.wrote;
+  whole = left_behind p.audit.book.accounts (jobs_by p.intake) done others whole front
+      (sym (take-append-drop p.written (jobs_by p.intake)) ∙ ap (λ (js : List JobView). js ++ drop p.written (jobs_by p.intake)) taken ∙ ap (λ (js : List JobView). done ++ js) dropped);
+}
+
+-- the front of what was read, and of more
+abbrev more_read : (p : Progress) (input more : List ℕ) → Type 0
+more_read p input more = IsFront p.audit.book.accounts (jobs_by p.intake) (input ++ more)
+
+front_as_read : (start : Outside) (p : Progress) (h : HasWritten start p) → IsFront p.audit.book.accounts (jobs_by p.intake) h.input
+front_as_read start p h = front_of p.intake.reader p.outside.left p.audit.book.accounts (jobs_by p.intake) p.intake.stray h.input [] h.input (sym (append-nil h.input)) (inr refl) h.known
+
+-- what was written is a prefix of the listing of what was read, and of more
+prefix_so : (start : Outside) (p : Progress) (h : HasWritten start p) (whole : List ℕ) → IsFront p.audit.book.accounts (jobs_by p.intake) whole → AppendsPrefix start.written p.outside.written (listing whole)
+prefix_so start p h whole front =
+    prefix_written start.written p.outside.written (listing whole) _ (still_left start p h (take p.written (jobs_by p.intake)) (drop p.written (jobs_by p.intake)) whole front refl refl)
+
+-- ---- where it halts
+
+-- memory may be wanting at any time
+pub stops_anywhere : (p q : Progress) → p.halt ≡ None → q.halt ≡ Some NoMemory → q.outside ≡ p.outside → GoesOn p q
+stops_anywhere p q free halted same = record { stands = stands }
+  where
+    halted_so : (start : Outside) → HasWritten start p → HasHalted start p.outside NoMemory
+    halted_so start h = record { cut = record { input = h.input; read = h.read; wrote = prefix_so start p h h.input (front_as_read start p h) }; cause = tt }
+
+    stands : (start : Outside) → StandsSince start p → StandsSince start q
+    stands start h = subst (Standing start q) (sym halted) (subst (λ (o : Outside). HasHalted start o NoMemory) (sym same) (halted_so start (subst (Standing start p) free h)))
+
+-- reading may stop
+pub stops_reading : (p q : Progress) (halt : Halt) → p.halt ≡ None → q.halt ≡ Some halt → q.outside.written ≡ p.outside.written
+    → StopsReading p.intake p.outside.left q.outside.left p.outside.read_faults q.outside.read_faults halt → GoesOn p q
+stops_reading p q halt free halted same stops = record { stands = stands }
+  where
+    cause_since : (halt : Halt) (start : Outside) (h : HasWritten start p)
+        → StopCause halt p.outside.read_faults q.outside.read_faults ((accounts : List Account) (input : List ℕ) → HasRead p.intake p.outside.left accounts input → (passes (input ++ stops.piece) ≡ true) ⊎ (IsAtEnd q.outside.left × (too_large (input ++ stops.piece) ≡ true)))
+        → HasCause halt start q.outside
+    cause_since NoMemory start h cause = tt
+    cause_since ReadFault start h cause = subst (λ (n : ℕ). Rose n q.outside.read_faults) h.read_faults cause
+    cause_since WriteFault start h cause = absurd cause
+    cause_since TooLarge start h cause = record {
+      input = h.input ++ stops.piece;
+      read = Consumes-trans start.left p.outside.left q.outside.left h.input stops.piece h.read stops.read;
+      large = cause p.audit.book.accounts h.input h.known;
+    }
+
+    halted_so : (start : Outside) → HasWritten start p → HasHalted start q.outside halt
+    halted_so start h =
+        let whole = h.input ++ stops.piece in
+        let front = front_of p.intake.reader p.outside.left p.audit.book.accounts (jobs_by p.intake) p.intake.stray h.input stops.piece whole refl (inl stops.going) h.known in
+        record {
+          cut = record {
+            input = whole;
+            read = Consumes-trans start.left p.outside.left q.outside.left h.input stops.piece h.read stops.read;
+            wrote = subst (λ (w : Option (List ℕ)). AppendsPrefix start.written w (listing whole)) (sym same) (prefix_so start p h whole front);
+          };
+          cause = cause_since halt start h stops.cause;
+        }
+
+    stands : (start : Outside) → StandsSince start p → StandsSince start q
+    stands start h = subst (Standing start q) (sym halted) (halted_so start (subst (Standing start p) free h))
+
+-- ---- where it is read on
+
+take_first : (n : ℕ) (xs ys : List JobView) → n ≤ length xs → take n (xs ++ ys) ≡ take n xs
+take_first zero xs ys h = refl
+take_first (suc n) [] ys h = absurd (omega arith)
+take_first (suc n) (x ∷ xs) ys h = ap (λ (js : List JobView). x ∷ js) (take_first n xs ys (omega arith))
+
+pub reads_on : (p q : Progress) → p.halt ≡ None → q.halt ≡ None → q.audit ≡ p.audit → q.written ≡ p.written → q.outside.written ≡ p.outside.written → q.outside.write_faults ≡ p.outside.write_faults
+    → ReadsOn p.intake q.intake p.outside.left q.outside.left p.outside.read_faults q.outside.read_faults → GoesOn p q
+reads_on p q free still audit count written faults reads = record { stands = stands }
+  where
+    same_jobs : p.written ≤ length (jobs_by p.intake) → take q.written (jobs_by q.intake) ≡ take p.written (jobs_by p.intake)
+    same_jobs few = ap (λ (n : ℕ). take n (jobs_by q.intake)) count ∙ ap (take p.written) reads.more.1 ∙ take_first p.written (jobs_by p.intake) reads.more.0 few
+
+    accounts : q.audit.book.accounts ≡ p.audit.book.accounts
+    accounts = ap (λ (a : Audit). a.book.accounts) audit
+
+    written_so : (start : Outside) → HasWritten start p → HasWritten start q
+    written_so start h =
+        let jobs = same_jobs h.few in
+        let Behind : Audit → Type 0 = λ a. IsBehind a.book (take p.written (jobs_by p.intake)) in
+        let Tallied : Audit → Type 0 = λ a. a.tally ≡ sections_tally (openings_of a.book.accounts) (take p.written (jobs_by p.intake)) in
+        let Wrote : Audit → Type 0 = λ a. Appends start.written p.outside.written (heading ++ sections (openings_of a.book.accounts) (take p.written (jobs_by p.intake))) in
+        record {
+          input = h.input ++ reads.piece;
+          read = Consumes-trans start.left p.outside.left q.outside.left h.input reads.piece h.read reads.read;
+          known = subst (λ (xs : List Account). HasRead q.intake q.outside.left xs (h.input ++ reads.piece)) (sym accounts) (reads.known p.audit.book.accounts h.input h.known);
+          few = omega (arith, h.few, count, ap length reads.more.1, length-append (jobs_by p.intake) reads.more.0);
+          behind = subst (IsBehind q.audit.book) (sym jobs) (subst Behind (sym audit) h.behind);
+          tally = subst (λ (js : List JobView). q.audit.tally ≡ sections_tally (openings q) js) (sym jobs) (subst Tallied (sym audit) h.tally);
+          wrote = subst (λ (js : List JobView). Appends start.written q.outside.written (heading ++ sections (openings q) js)) (sym jobs)
+              (subst (λ (w : Option (List ℕ)). Appends start.written w (heading ++ sections (openings q) (take p.written (jobs_by p.intake)))) (sym written) (subst Wrote (sym audit) h.wrote));
+          read_faults = reads.kept ∙ h.read_faults;
+          write_faults = faults ∙ h.write_faults;
+        }
+
+    stands : (start : Outside) → StandsSince start p → StandsSince start q
+    stands start h = subst (Standing start q) (sym still) (written_so start (subst (Standing start p) free h))
 
 -- ---- the next section
 
@@ -62,9 +228,11 @@ is_within (x ∷ xs) (suc n) job rest is = let h : n + 1 ≤ length xs = is_with
 -- what the next section is, and what it leaves
 pub record Next (p q : Progress) (job : JobView) (rest : List JobView) (piece : List ℕ) : Type 0 where
   pub free : p.halt ≡ None
-  pub left : drop p.written p.jobs ≡ job ∷ rest
-  pub jobs : q.jobs ≡ p.jobs
+  pub left : drop p.written (jobs_by p.intake) ≡ job ∷ rest
+  pub intake : q.intake ≡ p.intake
   pub accounts : q.audit.book.accounts ≡ p.audit.book.accounts
+  pub source : q.outside.left ≡ p.outside.left
+  pub read_faults : q.outside.read_faults ≡ p.outside.read_faults
   pub text : (earlier : List JobView) → IsBehind p.audit.book earlier → piece ≡ section (openings p) earlier job
 
 pub record Made (p q : Progress) (job : JobView) (piece : List ℕ) : Type 0 where
@@ -72,102 +240,86 @@ pub record Made (p q : Progress) (job : JobView) (piece : List ℕ) : Type 0 whe
   pub count : q.written ≡ p.written + 1
   pub behind : (earlier : List JobView) → IsBehind p.audit.book earlier → IsBehind q.audit.book (earlier ++ job ∷ [])
   pub tally : (earlier : List JobView) → IsBehind p.audit.book earlier → p.audit.tally ≡ sections_tally (openings p) earlier → q.audit.tally ≡ sections_tally (openings p) (earlier ++ job ∷ [])
-  pub wrote : Appends p.output.written q.output.written piece
-  pub faults : q.output.faults ≡ p.output.faults
-
--- memory may be wanting at any time
-pub stops_anywhere : (p q : Progress) → p.halt ≡ None → q.halt ≡ Some NoMemory → q.jobs ≡ p.jobs → q.audit ≡ p.audit → q.output ≡ p.output → GoesOn p q
-stops_anywhere p q free halted jobs audit output = record { jobs = jobs; accounts = ap (λ (a : Audit). a.book.accounts) audit; stands = stands }
-  where
-    prefix_so : (start : Output) → HasWritten start p → AppendsPrefix start.written p.output.written (sections (openings p) p.jobs)
-    prefix_so start h = prefix_written start.written p.output.written (sections (openings p) p.jobs) (sections_behind (openings p) (take p.written p.jobs) (drop p.written p.jobs)) (record {
-      done = sections (openings p) (take p.written p.jobs);
-      wrote = h.wrote;
-      whole = sym (sections_split (openings p) (take p.written p.jobs) (drop p.written p.jobs)) ∙ ap (sections (openings p)) (take-append-drop p.written p.jobs);
-    })
-
-    halted_so : (start : Output) → HasWritten start p → HasHalted start q NoMemory
-    halted_so start h =
-        let text : sections (openings p) p.jobs ≡ sections (openings q) q.jobs =
-        ap (λ (o : List ℕ). sections o p.jobs) (sym (ap (λ (a : Audit). openings_of a.book.accounts) audit)) ∙ ap (sections (openings q)) (sym jobs) in
-        record {
-          wrote = subst (λ (o : Output). AppendsPrefix start.written o.written (sections (openings q) q.jobs)) (sym output) (subst (AppendsPrefix start.written p.output.written) text (prefix_so start h));
-          cause = tt;
-        }
-
-    stands : (start : Output) → StandsSince start p → StandsSince start q
-    stands start h = subst (Standing start q) (sym halted) (halted_so start (subst (Standing start p) free h))
+  pub wrote : Appends p.outside.written q.outside.written piece
+  pub faults : q.outside.write_faults ≡ p.outside.write_faults
 
 pub writes_next : (p q : Progress) (job : JobView) (rest : List JobView) (piece : List ℕ) → Next p q job rest piece → Made p q job piece → GoesOn p q
-writes_next p q job rest piece next made = record { jobs = next.jobs; accounts = next.accounts; stands = stands }
+writes_next p q job rest piece next made = record { stands = stands }
   where
     done : List JobView
-    done = take p.written p.jobs
+    done = take p.written (jobs_by p.intake)
 
     same : openings q ≡ openings p
     same = ap openings_of next.accounts
 
-    now_done : take q.written q.jobs ≡ done ++ job ∷ []
-    now_done = ap (λ (n : ℕ). take n q.jobs) (made.count ∙ one_more p.written) ∙ ap (λ (js : List JobView). take (suc p.written) js) next.jobs ∙ take_next p.jobs p.written job rest next.left
+    same_jobs : jobs_by q.intake ≡ jobs_by p.intake
+    same_jobs = ap jobs_by next.intake
 
-    written_so : (start : Output) → HasWritten start p → HasWritten start q
+    now_done : take q.written (jobs_by q.intake) ≡ done ++ job ∷ []
+    now_done =
+        ap (λ (n : ℕ). take n (jobs_by q.intake)) (made.count ∙ one_more p.written)
+        ∙ ap (λ (js : List JobView). take (suc p.written) js) same_jobs
+        ∙ take_next (jobs_by p.intake) p.written job rest next.left
+
+    known_so : (input : List ℕ) → HasRead p.intake p.outside.left p.audit.book.accounts input → HasRead q.intake q.outside.left q.audit.book.accounts input
+    known_so input known =
+        subst (λ (i : Intake). HasRead i q.outside.left q.audit.book.accounts input) (sym next.intake)
+        (subst (λ (l : Option (List ℕ)). HasRead p.intake l q.audit.book.accounts input) (sym next.source) (subst (λ (xs : List Account). HasRead p.intake p.outside.left xs input) (sym next.accounts) known))
+
+    written_so : (start : Outside) → HasWritten start p → HasWritten start q
     written_so start h =
-        let text : sections (openings q) (take q.written q.jobs) ≡ sections (openings p) done ++ piece =
-        ap (λ (o : List ℕ). sections o (take q.written q.jobs)) same
-        ∙ ap (sections (openings p)) now_done
-        ∙ sections_more (openings p) done job
-        ∙ ap (λ (t : List ℕ). sections (openings p) done ++ t) (sym (next.text done h.behind)) in
-        let within : p.written + 1 ≤ length p.jobs = is_within p.jobs p.written job rest next.left in
-        let long : length q.jobs ≡ length p.jobs = ap length next.jobs in
+        let text : heading ++ sections (openings q) (take q.written (jobs_by q.intake)) ≡ (heading ++ sections (openings p) done) ++ piece =
+        ap (λ (o : List ℕ). heading ++ sections o (take q.written (jobs_by q.intake))) same
+        ∙ ap (λ (js : List JobView). heading ++ sections (openings p) js) now_done
+        ∙ ap (λ (t : List ℕ). heading ++ t) (sections_more (openings p) done job ∙ ap (λ (t : List ℕ). sections (openings p) done ++ t) (sym (next.text done h.behind)))
+        ∙ sym (append_assoc heading (sections (openings p) done) piece) in
+        let within : p.written + 1 ≤ length (jobs_by p.intake) = is_within (jobs_by p.intake) p.written job rest next.left in
+        let long : length (jobs_by q.intake) ≡ length (jobs_by p.intake) = ap length same_jobs in
         let counted = made.count in
         record {
+          input = h.input;
+          read = subst (λ (l : Option (List ℕ)). Consumes start.left l h.input) (sym next.source) h.read;
+          known = known_so h.input h.known;
           few = omega arith;
           behind = subst (IsBehind q.audit.book) (sym now_done) (made.behind done h.behind);
           tally = made.tally done h.behind h.tally ∙ ap (λ (o : List ℕ). sections_tally o (done ++ job ∷ [])) (sym same) ∙ ap (sections_tally (openings q)) (sym now_done);
-          wrote = subst (Appends start.written q.output.written) (sym text) (Appends-trans start.written p.output.written q.output.written (sections (openings p) done) piece h.wrote made.wrote);
-          faults = made.faults ∙ h.faults;
+          wrote = subst (Appends start.written q.outside.written) (sym text) (Appends-trans start.written p.outside.written q.outside.written (heading ++ sections (openings p) done) piece h.wrote made.wrote);
+          read_faults = next.read_faults ∙ h.read_faults;
+          write_faults = made.faults ∙ h.write_faults;
         }
 
-    stands : (start : Output) → StandsSince start p → StandsSince start q
+    stands : (start : Outside) → StandsSince start p → StandsSince start q
     stands start h = subst (Standing start q) (sym made.free) (written_so start (subst (Standing start p) next.free h))
 
 -- what holds where the next section isn't written whole
-pub record Halts (p q : Progress) (piece : List ℕ) (halt : Halt) : Type 0 where
-  pub halted : q.halt ≡ Some halt
-  pub wrote : AppendsPrefix p.output.written q.output.written piece
-  pub cause : HasCause halt p.output q.output
+pub record Halts (p q : Progress) (piece : List ℕ) : Type 0 where
+  pub halted : q.halt ≡ Some WriteFault
+  pub wrote : AppendsPrefix p.outside.written q.outside.written piece
+  pub cause : Rose p.outside.write_faults q.outside.write_faults
 
-pub halts_next : (p q : Progress) (job : JobView) (rest : List JobView) (piece : List ℕ) (halt : Halt) → Next p q job rest piece → Halts p q piece halt → GoesOn p q
-halts_next p q job rest piece halt next halts = record { jobs = next.jobs; accounts = next.accounts; stands = stands }
+pub halts_next : (p q : Progress) (job : JobView) (rest : List JobView) (piece : List ℕ) → Next p q job rest piece → Halts p q piece → GoesOn p q
+halts_next p q job rest piece next halts = record { stands = stands }
   where
     done : List JobView
-    done = take p.written p.jobs
+    done = take p.written (jobs_by p.intake)
 
-    cause_since : (halt : Halt) (start : Output) → p.output.faults ≡ start.faults → HasCause halt p.output q.output → HasCause halt start q.output
-    cause_since NoMemory start same h = tt
-    cause_since WriteFault start same h = subst (λ (n : ℕ). Rose n q.output.faults) same h
-
-    left_so : (start : Output) → HasWritten start p → WroteUpTo start.written p.output.written (sections (openings p) p.jobs) (piece ++ sections_behind (openings p) (done ++ job ∷ []) rest)
-    left_so start h = record {
-      done = sections (openings p) done;
-      wrote = h.wrote;
-      whole =
-          ap (λ (t : List ℕ). sections (openings p) done ++ (t ++ sections_behind (openings p) (done ++ job ∷ []) rest)) (next.text done h.behind)
-          ∙ ap (λ (js : List JobView). sections (openings p) done ++ sections_behind (openings p) done js) (sym next.left)
-          ∙ sym (sections_split (openings p) done (drop p.written p.jobs))
-          ∙ ap (sections (openings p)) (take-append-drop p.written p.jobs);
-    }
-
-    halted_so : (start : Output) → HasWritten start p → HasHalted start q halt
+    halted_so : (start : Outside) → HasWritten start p → HasHalted start q.outside WriteFault
     halted_so start h =
-        let text : sections (openings p) p.jobs ≡ sections (openings q) q.jobs =
-        ap (λ (o : List ℕ). sections o p.jobs) (sym (ap openings_of next.accounts)) ∙ ap (sections (openings q)) (sym next.jobs) in
+        let front = front_as_read start p h in
+        let behind = sections_behind (openings p) (done ++ job ∷ []) (rest ++ front.rest) in
+        let left = still_left start p h done (job ∷ rest) h.input front refl next.left in
+        let parts : (section (openings p) done job ++ behind) ++ closing_of (batch h.input) ≡ piece ++ (behind ++ closing_of (batch h.input)) =
+        append_assoc (section (openings p) done job) behind (closing_of (batch h.input)) ∙ ap (λ (t : List ℕ). t ++ (behind ++ closing_of (batch h.input))) (sym (next.text done h.behind)) in
         record {
-          wrote = subst (AppendsPrefix start.written q.output.written) text (prefix_more _ _ _ _ _ _ (left_so start h) halts.wrote);
-          cause = cause_since halt start h.faults halts.cause;
+          cut = record {
+            input = h.input;
+            read = subst (λ (l : Option (List ℕ)). Consumes start.left l h.input) (sym next.source) h.read;
+            wrote = prefix_more _ _ _ _ _ _ (subst (λ (rest : List ℕ). WroteUpTo start.written p.outside.written (listing h.input) rest) parts left) halts.wrote;
+          };
+          cause = subst (λ (n : ℕ). Rose n q.outside.write_faults) h.write_faults halts.cause;
         }
 
-    stands : (start : Output) → StandsSince start p → StandsSince start q
+    stands : (start : Outside) → StandsSince start p → StandsSince start q
     stands start h = subst (Standing start q) (sym halts.halted) (halted_so start (subst (Standing start p) next.free h))
 
 -- ---- how many turns are left
@@ -183,7 +335,7 @@ less_to_write (Some halt) new jobs jobs' written written' free more same one = c
 less_to_write None (Some halt) jobs jobs' written written' free more same one = omega arith
 less_to_write None None jobs jobs' written written' free more same one = let next = one refl in omega arith
 
--- ---- from the first section to the last
+-- ---- behind the last section
 
 take_whole : (n : ℕ) (jobs : List JobView) → length jobs ≤ n → take n jobs ≡ jobs
 take_whole zero [] h = refl
@@ -191,63 +343,89 @@ take_whole zero (x ∷ xs) h = absurd (omega arith)
 take_whole (suc n) [] h = refl
 take_whole (suc n) (x ∷ xs) h = ap (λ (js : List JobView). x ∷ js) (take_whole n xs (omega arith))
 
--- nothing is written yet
-pub record Begins (start : Output) (jobs : List JobView) (audit : Audit) (p : Progress) : Type 0 where
-  pub jobs_are : p.jobs ≡ jobs
-  pub output_is : p.output ≡ start
-  pub audit_is : p.audit ≡ audit
-  pub none : p.written ≡ 0
-  pub free : p.halt ≡ None
-  pub behind : IsBehind audit.book []
-  pub tally : audit.tally ≡ sections_tally (openings_of audit.book.accounts) []
-
-begins_so : (start : Output) (jobs : List JobView) (audit : Audit) (p : Progress) → Begins start jobs audit p → StandsSince start p
-begins_so start jobs audit p b = subst (Standing start p) (sym b.free) (record {
-  few = let n = b.none in omega arith;
-  behind = subst (IsBehind p.audit.book) (sym nothing) (subst (λ (a : Audit). IsBehind a.book []) (sym b.audit_is) b.behind);
-  tally = subst (λ (a : Audit). a.tally ≡ sections_tally (openings_of a.book.accounts) []) (sym b.audit_is) b.tally ∙ ap (sections_tally (openings p)) (sym nothing);
-  wrote = subst (Appends start.written p.output.written) (ap (sections (openings p)) (sym nothing)) (subst (λ (o : Output). Appends start.written o.written []) (sym b.output_is) (Appends-nil start.written));
-  faults = ap (λ (o : Output). o.faults) b.output_is;
-})
-  where
-    nothing : take p.written p.jobs ≡ []
-    nothing = ap (λ (n : ℕ). take n p.jobs) b.none
-
-pub all_so : (start : Output) (jobs : List JobView) (audit : Audit) (p q : Progress) → Begins start jobs audit p → GoesOn p q → q.halt ≡ None → length q.jobs ≤ q.written → WroteAll start q.output jobs audit q.audit
-all_so start jobs audit p q b on free all = record {
-  behind = subst (IsBehind q.audit.book) whole h.behind;
-  accounts = same;
-  tally = h.tally ∙ ap (sections_tally (openings q)) whole ∙ ap (λ (o : List ℕ). sections_tally o jobs) (ap openings_of same);
-  wrote = subst (Appends start.written q.output.written) (ap (sections (openings q)) whole ∙ ap (λ (o : List ℕ). sections o jobs) (ap openings_of same)) h.wrote;
-  faults = h.faults;
+pub all_so : (start : Outside) (p : Progress) → p.halt ≡ None → p.intake.reader ≡ None → length (jobs_by p.intake) ≤ p.written → StandsSince start p → IsServed start p.outside p.audit p.intake.stray
+all_so start p free ended all stands = record {
+  input = h.input;
+  read = h.read;
+  to_end = known.0;
+  fits = known.1;
+  accounts = sym (ap (λ (b : Batch). b.accounts) known.2);
+  stray_is = sym (ap (λ (b : Batch). b.stray) known.2);
+  behind = subst (IsBehind p.audit.book) jobs h.behind;
+  tally = h.tally ∙ ap (sections_tally (openings p)) jobs ∙ ap (λ (xs : List Account). sections_tally (openings_of xs) (batch h.input).jobs) accounts;
+  wrote = subst (λ (xs : List Account). Appends start.written p.outside.written (heading ++ sections (openings_of xs) (batch h.input).jobs)) accounts
+      (subst (λ (js : List JobView). Appends start.written p.outside.written (heading ++ sections (openings p) js)) jobs h.wrote);
+  read_faults = h.read_faults;
+  write_faults = h.write_faults;
 }
   where
-    h : HasWritten start q
-    h = subst (Standing start q) free (on.stands start (begins_so start jobs audit p b))
+    h : HasWritten start p
+    h = subst (Standing start p) free stands
 
-    same : q.audit.book.accounts ≡ audit.book.accounts
-    same = on.accounts ∙ ap (λ (a : Audit). a.book.accounts) b.audit_is
+    known : Knows None p.outside.left p.audit.book.accounts (jobs_by p.intake) p.intake.stray h.input
+    known = subst (λ (r : Option Reader). Knows r p.outside.left p.audit.book.accounts (jobs_by p.intake) p.intake.stray h.input) ended h.known
 
-    whole : take q.written q.jobs ≡ jobs
-    whole = take_whole q.written q.jobs all ∙ on.jobs ∙ b.jobs_are
+    accounts : p.audit.book.accounts ≡ (batch h.input).accounts
+    accounts = sym (ap (λ (b : Batch). b.accounts) known.2)
 
-pub stopped_so : (start : Output) (jobs : List JobView) (audit : Audit) (p q : Progress) (halt : Halt) → Begins start jobs audit p → GoesOn p q → q.halt ≡ Some halt → WroteSome start q.output jobs audit halt
-stopped_so start jobs audit p q halt b on halted = record {
-  wrote = subst (AppendsPrefix start.written q.output.written) text h.wrote;
-  cause = h.cause;
-}
-  where
-    h : HasHalted start q halt
-    h = subst (Standing start q) halted (on.stands start (begins_so start jobs audit p b))
+    jobs : take p.written (jobs_by p.intake) ≡ (batch h.input).jobs
+    jobs = take_whole p.written (jobs_by p.intake) all ∙ sym (ap (λ (b : Batch). b.jobs) known.2)
 
-    text : sections (openings q) q.jobs ≡ sections (openings_of audit.book.accounts) jobs
-    text = ap (λ (o : List ℕ). sections o q.jobs) (ap openings_of (on.accounts ∙ ap (λ (a : Audit). a.book.accounts) b.audit_is)) ∙ ap (sections (openings_of audit.book.accounts)) (on.jobs ∙ b.jobs_are)
+pub stopped_so : (start : Outside) (p : Progress) (halt : Halt) → p.halt ≡ Some halt → StandsSince start p → HasHalted start p.outside halt
+stopped_so start p halt halted stands = subst (Standing start p) halted stands
+
+-- a docket before the first section
+pub begun_so : (start now : Outside) (docket : Docket) → docket.written ≡ 0 → docket.halt ≡ None → HasWritten start (begun now docket.intake docket.audit) → StandsSince start (progress docket now)
+begun_so start now docket none free h =
+    let same : progress docket now ≡ begun now docket.intake docket.audit =
+    ap (λ (n : ℕ). record (progress docket now) { written = n }) none ∙ ap (λ (halt : Option Halt). record (begun now docket.intake docket.audit) { halt = halt }) free in
+    subst (StandsSince start) (sym same) h
 
 -- without a section, nothing is written
 pub none_written : (written : Option (List ℕ)) (text : List ℕ) → AppendsPrefix written written text
 none_written written text = (0, Appends-nil written)
 
--- a fault of writing was counted
-pub fault_of : (halt : Halt) (start now : Output) → halt ≡ WriteFault → HasCause halt start now → Rose start.faults now.faults
-fault_of NoMemory start now is cause = cc
-fault_of WriteFault start now is cause = cause
+-- ---- before the first section
+
+pub front_halted : (start now : Outside) (halt : Halt) → now.written ≡ start.written → StopsFront start.left now.left start.read_faults now.read_faults halt → HasHalted start now halt
+front_halted start now halt same stops = record {
+  cut = record { input = stops.input; read = stops.read; wrote = subst (λ (w : Option (List ℕ)). AppendsPrefix start.written w (listing stops.input)) (sym same) (none_written start.written (listing stops.input)) };
+  cause = cause_so halt stops.cause;
+}
+  where
+    cause_so : (halt : Halt) → StopCause halt start.read_faults now.read_faults (IsTooLarge start.left now.left) → HasCause halt start now
+    cause_so NoMemory cause = tt
+    cause_so ReadFault cause = cause
+    cause_so WriteFault cause = absurd cause
+    cause_so TooLarge cause = cause
+
+-- where the heading isn't written whole
+pub heading_halted : (start now : Outside) (intake : Intake) (audit : Audit) → IsOpened start.left now.left intake audit → AppendsPrefix start.written now.written heading → Rose start.write_faults now.write_faults
+    → HasHalted start now WriteFault
+heading_halted start now intake audit opened wrote rose =
+    let b = batch opened.input in
+    let text = sections (openings_of b.accounts) b.jobs in
+    let parts : listing opened.input ≡ heading ++ (text ++ closing_of b) = append_assoc heading text (closing_of b) in
+    record {
+      cut = record {
+        input = opened.input;
+        read = opened.read;
+        wrote = prefix_more _ _ _ _ _ _ (subst (λ (rest : List ℕ). WroteUpTo start.written start.written (listing opened.input) rest) parts (all_left start.written (listing opened.input))) wrote;
+      };
+      cause = rose;
+    }
+
+-- where it is
+pub opened_so : (start now : Outside) (intake : Intake) (audit : Audit) → IsOpened start.left now.left intake audit → Appends start.written now.written heading → now.read_faults ≡ start.read_faults → now.write_faults ≡ start.write_faults
+    → HasWritten start (begun now intake audit)
+opened_so start now intake audit opened wrote read_faults write_faults = record {
+  input = opened.input;
+  read = opened.read;
+  known = opened.known;
+  few = omega arith;
+  behind = opened.behind;
+  tally = opened.tally;
+  wrote = subst (λ (text : List ℕ). Appends start.written now.written text) (sym (append-nil heading)) wrote;
+  read_faults = read_faults;
+  write_faults = write_faults;
+}

@@ -1,5 +1,5 @@
 -- What holds at an error.
-use Rattle.std.proofs.Common.{◌≡◌, Result, Ok, Err, OnErr, IfErr, IsErrAnd, IsErrOf, IfSome, Option, None, Some, ap, refl, sym, subst}
+use Rattle.std.proofs.Common.{◌≡◌, Result, Ok, Err, OnErr, IfErr, IsErrAnd, IsErrOf, IfSome, Option, None, Some, ap, refl, sym, subst, ◌∙◌}
 
 pub at_err : {T E P : Type 0} (r : Result T E) → P → OnErr r P
 at_err (Ok x) holds = tt
@@ -24,3 +24,8 @@ at_some (Some x) P holds = holds x refl
 
 pub some_at : {A : Type 0} (o : Option A) (P : A → Type 0) (x : A) → o ≡ Some x → IfSome o P → P x
 some_at o P x is holds = subst (λ o. IfSome o P) is holds
+
+-- an error that was handed on is the one that it was
+pub same_error : {T E : Type 0} (r : Result T E) (error other : E) → IsErrAnd r (λ e. e ≡ error) → IsErrOf r other → error ≡ other
+same_error (Ok x) error other is that = absurd is
+same_error {T} (Err e) error other is that = sym is ∙ error_is {T = T} e other that

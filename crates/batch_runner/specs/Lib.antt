@@ -1,2 +1,4 @@
+pub mod Outcome
 pub mod Progress
 pub mod ProgressLaws
+pub mod Taking

@@ -1,27 +1,24 @@
 -- How far the listing of a batch is.
-use Rattle.std.specs.Prelude.{ℕ, ◌≡◌, ◌≤◌, List, Option, Some, None, length, map, take}
-use Rattle.std.specs.Io.KnownBytes.{Appends}
-use Rattle.deck_reader.specs.JobView.{JobView}
+use Rattle.std.specs.Prelude.{ℕ, ◌≡◌, ◌≤◌, ◌++◌, false, List, [], Option, Some, None, length, take}
+use Rattle.std.specs.Io.KnownBytes.{Appends, Consumes, IsAtEnd}
+use Rattle.deck_reader.specs.Batch.{batch, too_large}
 use Rattle.account_book.specs.BookView.{openings_of}
-use Rattle.batch_io.specs.Causes.{Rose}
 use Rattle.batch_listing.specs.declared.audit.Audit.{Audit}
 use Rattle.batch_listing.specs.Behind.{IsBehind}
 use Rattle.batch_listing.specs.Listing.{sections}
 use Rattle.batch_listing.specs.Tallies.{sections_tally}
-use Rattle.batch_listing.specs.Writing.{AppendsPrefix}
+use Rattle.batch_listing.specs.Texts.{heading}
 use Rattle.batch_runner.specs.declared.clerk.Docket.{Docket}
 use Rattle.batch_runner.specs.declared.halt.Halt.{Halt}
-use Rattle.batch_runner.specs.declared.halt.Halt.TheVariants.{NoMemory, WriteFault}
+use Rattle.batch_runner.specs.declared.intake.Intake.{Intake}
+use Rattle.batch_runner.specs.Outcome.{Outside, HasHalted}
+use Rattle.batch_runner.specs.Taking.{HasRead, jobs_by}
 
--- what a sink was given, as far as it tells, and how many faults it has met
-pub record Output : Type 0 where
-  pub written : Option (List ℕ)
-  pub faults : ℕ
-
--- the jobs of a batch, what was written, the audit behind what it has made, of how many jobs the sections are written, and why no more are
+-- what was read and written, what is known of the batch, the audit behind what it has made, of how many jobs the sections are written, and why
+-- no more are
 pub record Progress : Type 0 where
-  pub jobs : List JobView
-  pub output : Output
+  pub outside : Outside
+  pub intake : Intake
   pub audit : Audit
   pub written : ℕ
   pub halt : Option Halt
@@ -29,54 +26,56 @@ pub record Progress : Type 0 where
 abbrev pub openings : Progress → List ℕ
 openings p = openings_of p.audit.book.accounts
 
--- the sections of the first jobs were made and written since the start
-pub record HasWritten (start : Output) (p : Progress) : Type 0 where
-  pub few : p.written ≤ length p.jobs
-  pub behind : IsBehind p.audit.book (take p.written p.jobs)
-  pub tally : p.audit.tally ≡ sections_tally (openings p) (take p.written p.jobs)
-  pub wrote : Appends start.written p.output.written (sections (openings p) (take p.written p.jobs))
-  pub faults : p.output.faults ≡ start.faults
+-- an input was read since the start, and the heading and the sections of its first jobs were made and written
+pub record HasWritten (start : Outside) (p : Progress) : Type 0 where
+  pub input : List ℕ
+  pub read : Consumes start.left p.outside.left input
+  pub known : HasRead p.intake p.outside.left p.audit.book.accounts input
+  pub few : p.written ≤ length (jobs_by p.intake)
+  pub behind : IsBehind p.audit.book (take p.written (jobs_by p.intake))
+  pub tally : p.audit.tally ≡ sections_tally (openings p) (take p.written (jobs_by p.intake))
+  pub wrote : Appends start.written p.outside.written (heading ++ sections (openings p) (take p.written (jobs_by p.intake)))
+  pub read_faults : p.outside.read_faults ≡ start.read_faults
+  pub write_faults : p.outside.write_faults ≡ start.write_faults
 
--- memory may be wanting at any time; a write that failed was counted
-abbrev pub HasCause : Halt → Output → Output → Type 0
-HasCause NoMemory start now = Unit {0}
-HasCause WriteFault start now = Rose start.faults now.faults
-
--- a prefix of the sections was written since the start
-pub record HasHalted (start : Output) (p : Progress) (halt : Halt) : Type 0 where
-  pub wrote : AppendsPrefix start.written p.output.written (sections (openings p) p.jobs)
-  pub cause : HasCause halt start p.output
-
-abbrev pub Standing : Output → Progress → Option Halt → Type 0
+abbrev pub Standing : Outside → Progress → Option Halt → Type 0
 Standing start p None = HasWritten start p
-Standing start p (Some halt) = HasHalted start p halt
+Standing start p (Some halt) = HasHalted start p.outside halt
 
--- either, by whether something halts it
-abbrev pub StandsSince : Output → Progress → Type 0
+-- either this, or something halts it
+abbrev pub StandsSince : Outside → Progress → Type 0
 StandsSince start p = Standing start p p.halt
 
--- what stood since any start stands still, for the same jobs and accounts
+-- what stood since any start stands still
 pub record GoesOn (old new : Progress) : Type 0 where
-  pub jobs : new.jobs ≡ old.jobs
-  pub accounts : new.audit.book.accounts ≡ old.audit.book.accounts
-  pub stands : (start : Output) → StandsSince start old → StandsSince start new
+  pub stands : (start : Outside) → StandsSince start old → StandsSince start new
 
--- the progress of a docket, where this was written
-abbrev pub progress : Docket → Output → Progress
-progress docket output = record { jobs = map (λ j. j.value) docket.jobs.items; output = output; audit = docket.audit; written = docket.written; halt = docket.halt }
+-- the progress of a docket, where this was read and written
+abbrev pub progress : Docket → Outside → Progress
+progress docket now = record { outside = now; intake = docket.intake; audit = docket.audit; written = docket.written; halt = docket.halt }
 
-abbrev pub output : Option (List ℕ) → ℕ → Output
-output written faults = record { written = written; faults = faults }
+-- the progress before the first section
+abbrev pub begun : Outside → Intake → Audit → Progress
+begun now intake audit = record { outside = now; intake = intake; audit = audit; written = 0; halt = None }
 
--- the sections of these jobs are all written since the start, and the audit is behind the last
-pub record WroteAll (start now : Output) (jobs : List JobView) (before after : Audit) : Type 0 where
-  pub behind : IsBehind after.book jobs
-  pub accounts : after.book.accounts ≡ before.book.accounts
-  pub tally : after.tally ≡ sections_tally (openings_of before.book.accounts) jobs
-  pub wrote : Appends start.written now.written (sections (openings_of before.book.accounts) jobs)
-  pub faults : now.faults ≡ start.faults
+-- the accounts of a batch, of which so much was read, are in the audit's book, and no section is made
+pub record IsOpened (left left' : Option (List ℕ)) (intake : Intake) (audit : Audit) : Type 0 where
+  pub input : List ℕ
+  pub read : Consumes left left' input
+  pub known : HasRead intake left' audit.book.accounts input
+  pub behind : IsBehind audit.book []
+  pub tally : audit.tally ≡ sections_tally (openings_of audit.book.accounts) []
 
--- or a prefix of them
-pub record WroteSome (start now : Output) (jobs : List JobView) (before : Audit) (halt : Halt) : Type 0 where
-  pub wrote : AppendsPrefix start.written now.written (sections (openings_of before.book.accounts) jobs)
-  pub cause : HasCause halt start now
+-- the whole source was read and wasn't too large, the heading and all sections were written, and this audit is behind the last
+pub record IsServed (start now : Outside) (audit : Audit) (stray : ℕ) : Type 0 where
+  pub input : List ℕ
+  pub read : Consumes start.left now.left input
+  pub to_end : IsAtEnd now.left
+  pub fits : too_large input ≡ false
+  pub accounts : audit.book.accounts ≡ (batch input).accounts
+  pub stray_is : stray ≡ (batch input).stray
+  pub behind : IsBehind audit.book (batch input).jobs
+  pub tally : audit.tally ≡ sections_tally (openings_of (batch input).accounts) (batch input).jobs
+  pub wrote : Appends start.written now.written (heading ++ sections (openings_of (batch input).accounts) (batch input).jobs)
+  pub read_faults : now.read_faults ≡ start.read_faults
+  pub write_faults : now.write_faults ≡ start.write_faults

@@ -1,9 +1,8 @@
 -- The progress of a batch goes on and on.
-use Rattle.std.proofs.Common.{refl, ◌∙◌}
 use Rattle.batch_runner.specs.Progress.{Progress, GoesOn}
 
 pub goes_nowhere : (p : Progress) → GoesOn p p
-goes_nowhere p = record { jobs = refl; accounts = refl; stands = λ start h. h }
+goes_nowhere p = record { stands = λ start h. h }
 
 pub goes_further : (p q r : Progress) → GoesOn p q → GoesOn q r → GoesOn p r
-goes_further p q r a b = record { jobs = b.jobs ∙ a.jobs; accounts = b.accounts ∙ a.accounts; stands = λ start h. b.stands start (a.stands start h) }
+goes_further p q r a b = record { stands = λ start h. b.stands start (a.stands start h) }

@@ -1,4 +1,5 @@
-use batch_io::WriteFailed;
+use batch_io::{ReadFailed, WriteFailed};
+use deck_reader::FeedError;
 use std::alloc::{AllocError, AllocFailed};
 
 /// Why a listing isn't written whole.
@@ -6,8 +7,12 @@ use std::alloc::{AllocError, AllocFailed};
 pub enum Halt {
     /// Memory was wanting.
     NoMemory,
+    /// A read failed.
+    ReadFault,
     /// A write failed.
     WriteFault,
+    /// The batch is too large.
+    TooLarge,
 }
 
 impl From<AllocError> for Halt {
@@ -32,6 +37,17 @@ impl<T: Drop> From<AllocFailed<T>> for Halt {
     }
 }
 
+impl From<ReadFailed> for Halt {
+    ghost use Rattle.std.specs.Prelude.{◌≡◌};
+    ghost use Rattle.batch_runner.specs.declared.halt.Halt.TheVariants.{ReadFault};
+
+    ghost from_gives = { λ _ halt. halt ≡ ReadFault };
+
+    fn from(_: ReadFailed) -> Halt {
+        Halt::ReadFault
+    }
+}
+
 impl From<WriteFailed> for Halt {
     ghost use Rattle.std.specs.Prelude.{◌≡◌};
     ghost use Rattle.batch_runner.specs.declared.halt.Halt.TheVariants.{WriteFault};
@@ -40,5 +56,19 @@ impl From<WriteFailed> for Halt {
 
     fn from(_: WriteFailed) -> Halt {
         Halt::WriteFault
+    }
+}
+
+impl From<FeedError> for Halt {
+    ghost use Rattle.std.specs.Prelude.{◌≡◌};
+    ghost use Rattle.batch_runner.specs.Outcome.{halt_of};
+
+    ghost from_gives = { λ error halt. halt ≡ halt_of error };
+
+    fn from(error: FeedError) -> Halt {
+        match error {
+            FeedError::TooLarge => Halt::TooLarge,
+            FeedError::NoMemory => Halt::NoMemory,
+        }
     }
 }

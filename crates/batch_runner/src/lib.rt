@@ -3,8 +3,10 @@
 
 mod clerk;
 mod halt;
+mod intake;
 mod listing;
 mod nowhere;
+mod reading;
 mod running;
 
 pub use halt::Halt;

@@ -1,94 +1,74 @@
-ghost use Rattle.std.specs.Prelude.{◌≡◌, ◌≤◌, ◌+◌, [], None, IfOk, IfSome, OnOk, OnErr, IsErrOf, length, map};
-ghost use Rattle.std.specs.Io.KnownBytes.{Appends};
+ghost use Rattle.std.specs.Prelude.{◌≡◌, ◌≤◌, ◌+◌, true, None, IfErr, IfOk, IfSome, OnErr, OnOk, IsErrOf, length};
 ghost use Rattle.batch_io.specs.Causes.{Rose};
-ghost use Rattle.account_book.specs.BookView.{openings_of};
-ghost use Rattle.batch_listing.specs.Behind.{IsBehind};
-ghost use Rattle.batch_listing.specs.Listing.{listing_of, sections};
-ghost use Rattle.batch_listing.specs.Tallies.{listing_tally, sections_tally};
-ghost use Rattle.batch_listing.specs.Writing.{AppendsPrefix};
-ghost use Rattle.batch_runner.specs.Progress.{WroteAll, WroteSome, output};
+ghost use Rattle.deck_reader.specs.Batch.{batch, too_large};
+ghost use Rattle.batch_listing.specs.Tallies.{listing_tally};
+ghost use Rattle.batch_runner.specs.Outcome.{HasHalted, IsCutShort, IsDone, IsTooLarge, Outside, outside};
+ghost use Rattle.batch_runner.specs.Progress.{HasWritten, IsOpened, IsServed, begun};
+ghost use Rattle.batch_runner.specs.Taking.{StopsFront};
 
 use crate::clerk::{Clerk, Docket};
 use crate::halt::Halt;
+use crate::intake::Intake;
 use crate::nowhere::Nowhere;
+use crate::reading::{Front, read_front};
 use crate::running::{Staff, run_jobs};
 use account_book::Book;
-use batch_io::{Gate, Sink};
+use batch_io::{Gate, MemSource, Sink, Source};
 use batch_listing::{Audit, heading, write_all_of};
 use batch_summary::Tally;
-use deck_reader::{Batch, Job};
 use job_queue::FreshQueue;
 use job_runner::Desk;
 use std::alloc::{AllocError, Global};
 use std::marker::Brand;
-use std::sync::{Arc, Wait};
+use std::sync::Wait;
 use std::thread::Threads;
 
-/// Runs the jobs of a batch and writes its listing: the heading, each section as it is ready, and the closing lines.
-pub fn write_listing<R: Threads + Wait + Sync, K: Sink, G: Gate>(
+/// The bytes of a block that is larger than most that a job asks for.
+const KEPT_ROOM: usize = 1_048_576;
+
+/// Reads a batch, runs its jobs and writes its listing: the heading, each section as it is ready, and the closing lines. The
+/// jobs run while the batch is read.
+pub fn write_listing<R: Threads + Wait + Sync, S: Source, K: Sink, G: Gate>(
     rt: &R,
     alloc: Global,
+    src: &mut S,
     sink: &mut K,
-    batch: Batch,
     staff: Staff,
     gate: &G,
 ) -> Result<(), Halt>
-    requires { length batch.accounts ≤ 500 }
-    ensures ok { OnOk result (Appends (K.written sink.old) (K.written sink.new) (listing_of batch)) }
-    ensures err { OnErr result (AppendsPrefix (K.written sink.old) (K.written sink.new) (listing_of batch)) }
-    ensures kept { OnOk result (K.faults sink.new ≡ K.faults sink.old) }
+    // What was written is the listing of the batch, or a prefix of the listing of what was read.
+    ensures done { OnOk result (IsDone (S.left src.old) (S.left src.new) (K.written sink.old) (K.written sink.new)) }
+    ensures cut { OnErr result
+        (IsCutShort (S.left src.old) (S.left src.new) (K.written sink.old) (K.written sink.new)) }
+
+    // Each answer has its cause, and no fault is passed over.
+    ensures kept { OnOk result ((S.faults src.new ≡ S.faults src.old) × (K.faults sink.new ≡ K.faults sink.old)) }
+    ensures read { IsErrOf result Halt.ReadFault → Rose (S.faults src.old) (S.faults src.new) }
     ensures write { IsErrOf result Halt.WriteFault → Rose (K.faults sink.old) (K.faults sink.new) }
+    ensures large { IsErrOf result Halt.TooLarge → IsTooLarge (S.left src.old) (S.left src.new) }
 {
-    let Batch {
-        accounts,
-        jobs,
-        stray,
-    } = batch;
-    let book = Book::open(alloc, accounts.as_slice())?;
-    let audit = Audit::new(book)?;
-    let book = Book::open(alloc, accounts.as_slice())?;
-    write_all_of(sink, heading())?;
-    let audit = write_sections(rt, alloc, sink, book, audit, jobs.into_vec(), staff, gate)?;
-    let closing = audit.closing(alloc, stray)?;
+    let served = write_sections(rt, alloc, src, sink, staff, gate)?;
+    let closing = served.audit.closing(alloc, served.stray)?;
     write_all_of(sink, closing.as_slice())?;
     Ok(())
 }
 
-/// Runs the jobs of a batch, and tells what its listing comes to.
+/// Reads a batch, runs its jobs, and tells what its listing comes to.
 pub fn tally_listing<R: Threads + Wait + Sync, G: Gate>(
     rt: &R,
     alloc: Global,
-    batch: Batch,
+    mut src: MemSource,
     staff: Staff,
     gate: &G,
-) -> Result<Tally, AllocError>
-    requires { length batch.accounts ≤ 500 }
-    ensures { IfOk result (λ tally. tally ≡ listing_tally batch) }
+) -> Result<Tally, Halt>
+    ensures tally { IfOk result (λ tally. tally ≡ listing_tally (batch src.left)) }
+    ensures write { IsErrOf result Halt.WriteFault → ⊥ }
+    ensures large { IsErrOf result Halt.TooLarge → too_large src.left ≡ true }
 {
-    let Batch {
-        accounts,
-        jobs,
-        stray,
-    } = batch;
-    let book = Book::open(alloc, accounts.as_slice())?;
-    let audit = Audit::new(book)?;
-    let book = Book::open(alloc, accounts.as_slice())?;
     let mut nowhere = Nowhere;
-    // A sink that takes all meets no fault: where the sections aren't made whole, memory was wanting.
-    let Ok(audit) = write_sections(
-        rt,
-        alloc,
-        &mut nowhere,
-        book,
-        audit,
-        jobs.into_vec(),
-        staff,
-        gate,
-    ) else {
-        return Err(AllocError);
-    };
-    let closing = audit.closing(alloc, stray)?;
-    let sections = audit.tally();
+    let served = write_sections(rt, alloc, &mut src, &mut nowhere, staff, gate)?;
+    let closing = served.audit.closing(alloc, served.stray)?;
+    let sections = served.audit.tally();
     let listing = with_closing(sections, closing.as_slice())?;
     Ok(listing)
 }
@@ -104,83 +84,119 @@ fn with_closing(sections: Tally, closing: &[u8]) -> Result<Tally, AllocError>
     Ok(Tally { bytes, ..sections })
 }
 
-/// Runs the jobs, writes the section of each, in order, and gives the audit back behind the last.
-fn write_sections<R: Threads + Wait + Sync, K: Sink, G: Gate>(
+/// What is left of a batch behind its last section.
+#[derive(Drop)]
+struct Served {
+    audit: Audit,
+    stray: u32,
+}
+
+/// Reads a batch, runs its jobs, and writes the heading and the section of each job, in order.
+fn write_sections<R: Threads + Wait + Sync, S: Source, K: Sink, G: Gate>(
     rt: &R,
     alloc: Global,
+    src: &mut S,
     sink: &mut K,
-    book: Book,
-    audit: Audit,
-    jobs: Vec<Job>,
     staff: Staff,
     gate: &G,
-) -> Result<Audit, Halt>
-    requires behind { IsBehind audit.book [] }
-    requires tally { audit.tally ≡ sections_tally (openings_of audit.book.accounts) [] }
-    ensures behind { IfOk result (λ after. IsBehind after.book jobs.items) }
-    ensures accounts { IfOk result (λ after. after.book.accounts ≡ audit.book.accounts) }
-    ensures tally { IfOk result (λ after. after.tally ≡ sections_tally (openings_of audit.book.accounts) jobs.items) }
-    ensures ok { OnOk result (Appends (K.written sink.old) (K.written sink.new) (sections (openings_of audit.book.accounts) jobs.items)) }
-    ensures err { OnErr result (AppendsPrefix (K.written sink.old) (K.written sink.new) (sections (openings_of audit.book.accounts) jobs.items)) }
-    ensures kept { OnOk result (K.faults sink.new ≡ K.faults sink.old) }
-    ensures write { IsErrOf result Halt.WriteFault → Rose (K.faults sink.old) (K.faults sink.new) }
+) -> Result<Served, Halt>
+    ensures ok { IfOk result (λ served. IsServed (outside (S.left src.old) (S.faults src.old) (K.written sink.old) (K.faults sink.old)) (outside (S.left src.new) (S.faults src.new) (K.written sink.new) (K.faults sink.new)) served.audit served.stray) }
+    ensures err { IfErr result (λ halt. HasHalted (outside (S.left src.old) (S.faults src.old) (K.written sink.old) (K.faults sink.old)) (outside (S.left src.new) (S.faults src.new) (K.written sink.new) (K.faults sink.new)) halt) }
 {
-    let jobs = shared(alloc, jobs)?;
-    let mut desks = desks(alloc, staff.workers())?;
-    let desk = Desk::new(alloc)?;
-    let fresh = FreshQueue::new(alloc, staff.queue())?;
+    let opened = open_batch(alloc, src, staff)?;
+    write_all_of(sink, heading())?;
+    let Opened {
+        intake,
+        book,
+        audit,
+        mut desks,
+        desk,
+        fresh,
+    } = opened;
     let desks = desks.as_mut_slice();
-    let (audit, halt) = serve(rt, alloc, sink, book, audit, jobs, fresh, desks, desk, gate);
-    match halt {
-        None => Ok(audit),
+    let docket = serve(
+        rt, alloc, src, sink, intake, book, audit, fresh, desks, desk, gate,
+    );
+    match docket.halt {
+        None => Ok(Served {
+            stray: docket.intake.stray(),
+            audit: docket.audit,
+        }),
         Some(halt) => Err(halt),
     }
 }
 
-/// Runs the jobs at these desks, and writes the section of each. Gives the audit back, and why it didn't come to the last.
-fn serve<R: Threads + Wait + Sync, K: Sink, G: Gate>(
-    rt: &R,
-    alloc: Global,
-    sink: &mut K,
+/// What is needed before the first job is run.
+#[derive(Drop)]
+struct Opened {
+    intake: Intake,
     book: Book,
     audit: Audit,
-    jobs: Vec<Arc<Job>>,
+    desks: Vec<Desk>,
+    desk: Desk,
+    fresh: FreshQueue,
+}
+
+/// Reads the accounts of a batch, and opens its books, desks and queue.
+fn open_batch<S: Source>(alloc: Global, src: &mut S, staff: Staff) -> Result<Opened, Halt>
+    ensures ok { IfOk result (λ opened. IsOpened (S.left src.old) (S.left src.new) opened.intake opened.audit) }
+    ensures desks { IfOk result (λ opened. length opened.desks.items ≡ staff.workers) }
+    ensures kept { OnOk result (S.faults src.new ≡ S.faults src.old) }
+    ensures err { IfErr result (λ halt. StopsFront (S.left src.old) (S.left src.new) (S.faults src.old) (S.faults src.new) halt) }
+{
+    let Front { accounts, intake } = read_front(alloc, src)?;
+    let book = Book::open(alloc, accounts.as_slice())?;
+    let audit = Audit::new(book)?;
+    Ok(Opened {
+        intake,
+        book: Book::open(alloc, accounts.as_slice())?,
+        audit,
+        fresh: FreshQueue::new(alloc, staff.queue())?,
+        desks: desks(alloc, staff.workers())?,
+        desk: Desk::new(alloc)?,
+    })
+}
+
+/// Lets a clerk read on and write all sections, while workers at these desks run the jobs. Gives back what the clerk kept.
+fn serve<R: Threads + Wait + Sync, S: Source, K: Sink, G: Gate>(
+    rt: &R,
+    alloc: Global,
+    src: &mut S,
+    sink: &mut K,
+    intake: Intake,
+    book: Book,
+    audit: Audit,
     fresh: FreshQueue,
     desks: &mut [Desk],
     desk: Desk,
     gate: &G,
-) -> (Audit, Option<Halt>)
-    requires behind { IsBehind audit.book [] }
-    requires tally { audit.tally ≡ sections_tally (openings_of audit.book.accounts) [] }
+) -> Docket
     requires desks { 1 ≤ length desks.old }
     requires few { length desks.old ≤ 16 }
-    ensures all { result.1 ≡ None → WroteAll (output (K.written sink.old) (K.faults sink.old))
-        (output (K.written sink.new) (K.faults sink.new)) (map (λ j. j.value) jobs.items) audit result.0 }
-    ensures some { IfSome result.1 (λ halt. WroteSome (output (K.written sink.old) (K.faults sink.old))
-        (output (K.written sink.new) (K.faults sink.new)) (map (λ j. j.value) jobs.items) audit halt) }
+    ensures all { (start : Outside) → HasWritten start (begun (outside (S.left src.old) (S.faults src.old) (K.written sink.old) (K.faults sink.old)) intake audit) → result.halt ≡ None
+        → IsServed start (outside (S.left src.new) (S.faults src.new) (K.written sink.new) (K.faults sink.new)) result.audit result.intake.stray }
+    ensures some { (start : Outside) → HasWritten start (begun (outside (S.left src.old) (S.faults src.old) (K.written sink.old) (K.faults sink.old)) intake audit)
+        → IfSome result.halt (λ halt. HasHalted start (outside (S.left src.new) (S.faults src.new) (K.written sink.new) (K.faults sink.new)) halt) }
 {
-    let docket = Docket::new(alloc, jobs, audit, desk);
-    let clerk = Clerk { sink, docket };
-    let after = run_jobs::<Brand, R, K, G>(rt, alloc, fresh, book, desks, gate, clerk);
-    let docket = after.into_docket();
-    (docket.audit, docket.halt)
+    let docket = Docket::new(alloc, intake, audit, desk);
+    let clerk = Clerk { src, sink, docket };
+    let after = run_jobs::<Brand, R, S, K, G>(rt, alloc, fresh, book, desks, gate, clerk);
+    after.into_docket()
 }
 
-/// The jobs, so that threads can share each.
-fn shared(alloc: Global, jobs: Vec<Job>) -> Result<Vec<Arc<Job>>, AllocError>
-    ensures { IfOk result (λ shared. map (λ j. j.value) shared.items ≡ jobs.items) }
-{
-    let mut all = Vec::with_capacity(alloc, jobs.len())?;
-    for job in jobs {
-        all.push(Arc::new(alloc, job)?)?;
-    }
-    Ok(all)
+/// Asks for a block that is larger than most that a job asks for, and gives it back. An allocator that has seen such a block
+/// come and go, as that of the GNU C library, keeps what a job gives back for the next one. Otherwise it gives that to the
+/// system at the end of each job, and asks for it anew.
+fn keep_room(alloc: Global) -> Result<(), AllocError> {
+    let mut room: Vec<u8> = Vec::new(alloc);
+    room.reserve_exact(KEPT_ROOM)
 }
 
 /// So many desks.
 fn desks(alloc: Global, count: u32) -> Result<Vec<Desk>, AllocError>
     ensures { IfOk result (λ desks. length desks.items ≡ count) }
 {
+    keep_room(alloc)?;
     let mut all = Vec::with_capacity(alloc, count as usize)?;
     for _ in 0..count {
         all.push(Desk::new(alloc)?)?;

@@ -1,19 +1,15 @@
-ghost use Rattle.std.specs.Prelude.{◌≡◌, ◌≤◌, [], None, IfSome, length, map};
-ghost use Rattle.crossbeam_queue.specs.Passes.{view};
-ghost use Rattle.account_book.specs.BookView.{openings_of};
-ghost use Rattle.batch_listing.specs.Behind.{IsBehind};
-ghost use Rattle.batch_listing.specs.Tallies.{sections_tally};
-ghost use Rattle.batch_runner.specs.Progress.{GoesOn, WroteAll, WroteSome, output, progress};
+ghost use Rattle.std.specs.Prelude.{◌≡◌, ◌≤◌, None, IfSome, length};
+ghost use Rattle.batch_runner.specs.Outcome.{HasHalted, Outside, outside};
+ghost use Rattle.batch_runner.specs.Progress.{GoesOn, HasWritten, IsServed, begun, progress};
 
 use crate::clerk::{Clerk, Docket};
 use account_book::Book;
-use batch_io::{Gate, Sink};
-use deck_reader::Job;
-use job_queue::{FreshQueue, PutPass, QueueBrand, SettleBook};
+use batch_io::{Gate, Sink, Source};
+use job_queue::{FreshQueue, QueueBrand};
 use job_runner::Desk;
-use office::{ArriveError, Office};
-use std::alloc::{AllocError, Global};
-use std::sync::{Arc, Wait};
+use office::Office;
+use std::alloc::Global;
+use std::sync::Wait;
 use std::thread::Threads;
 use worker_pool::{Pooled, gather, run_pool};
 
@@ -51,16 +47,24 @@ impl Staff {
     }
 }
 
-/// Runs a clerk's jobs, a worker at each of these desks, and lets the clerk write all sections.
-pub(crate) fn run_jobs<'a, B: QueueBrand + Send + Sync, R: Threads + Wait + Sync, K: Sink, G: Gate>(
+/// Lets a clerk read a batch and write all sections, while a worker at each of these desks runs the jobs.
+pub(crate) fn run_jobs<
+    's,
+    'k,
+    B: QueueBrand + Send + Sync,
+    R: Threads + Wait + Sync,
+    S: Source,
+    K: Sink,
+    G: Gate,
+>(
     rt: &R,
     alloc: Global,
     fresh: FreshQueue,
     book: Book,
     desks: &mut [Desk],
     gate: &G,
-    mut clerk: Clerk<'a, K, Docket>,
-) -> Clerk<'a, K, Docket>
+    mut clerk: Clerk<'s, 'k, S, K, Docket>,
+) -> Clerk<'s, 'k, S, K, Docket>
     requires name { fresh.blank.name ≡ B.name }
     requires parts { fresh.blank.parts ≡ B.parts }
     requires table { fresh.ring.table.shared.table_id ≡ B.table }
@@ -68,18 +72,14 @@ pub(crate) fn run_jobs<'a, B: QueueBrand + Send + Sync, R: Threads + Wait + Sync
     requires few { length desks.old ≤ 16 }
     requires free { clerk.docket.halt ≡ None }
     requires none { clerk.docket.written ≡ 0 }
-    requires behind { IsBehind clerk.docket.audit.book [] }
-    requires tally { clerk.docket.audit.tally ≡ sections_tally (openings_of clerk.docket.audit.book.accounts) [] }
-    ensures same_sink { result.sink.ghost_name ≡ clerk.entry.sink.ghost_name }
-    ensures all { result.docket.halt ≡ None
-        → WroteAll (output (K.written clerk.entry.sink.now) (K.faults clerk.entry.sink.now)) (output (K.written result.sink.now) (K.faults result.sink.now))
-        (map (λ j. j.value) clerk.entry.docket.jobs.items) clerk.entry.docket.audit result.docket.audit }
-    ensures some { IfSome result.docket.halt (λ halt.
-        WroteSome (output (K.written clerk.entry.sink.now) (K.faults clerk.entry.sink.now)) (output (K.written result.sink.now) (K.faults result.sink.now))
-        (map (λ j. j.value) clerk.entry.docket.jobs.items) clerk.entry.docket.audit halt) }
+    ensures same_ports { (result.src.ghost_name ≡ clerk.entry.src.ghost_name) × (result.sink.ghost_name ≡ clerk.entry.sink.ghost_name) }
+    ensures all { (start : Outside) → HasWritten start (begun (outside (S.left clerk.entry.src.now) (S.faults clerk.entry.src.now) (K.written clerk.entry.sink.now) (K.faults clerk.entry.sink.now)) clerk.entry.docket.intake clerk.entry.docket.audit)
+        → result.docket.halt ≡ None → IsServed start (outside (S.left result.src.now) (S.faults result.src.now) (K.written result.sink.now) (K.faults result.sink.now)) result.docket.audit result.docket.intake.stray }
+    ensures some { (start : Outside) → HasWritten start (begun (outside (S.left clerk.entry.src.now) (S.faults clerk.entry.src.now) (K.written clerk.entry.sink.now) (K.faults clerk.entry.sink.now)) clerk.entry.docket.intake clerk.entry.docket.audit)
+        → IfSome result.docket.halt (λ halt. HasHalted start (outside (S.left result.src.now) (S.faults result.src.now) (K.written result.sink.now) (K.faults result.sink.now)) halt) }
 {
     let (queue, put, take, settled) = fresh.open::<B>();
-    let Ok(office) = open_office(alloc, book, put, settled, clerk.docket.jobs()) else {
+    let Ok(office) = Office::new(alloc, book, put, settled) else {
         clerk.docket.stop_without_memory();
         return clerk;
     };
@@ -87,43 +87,21 @@ pub(crate) fn run_jobs<'a, B: QueueBrand + Send + Sync, R: Threads + Wait + Sync
     finish(rt, pooled, gate, clerk)
 }
 
-/// An office in which all jobs have arrived. One that doesn't fit it ends that: then the audit alone decides on it and those
-/// behind it.
-fn open_office<B: QueueBrand>(
-    alloc: Global,
-    book: Book,
-    put: PutPass<B>,
-    settled: SettleBook<B>,
-    jobs: &[Arc<Job>],
-) -> Result<Office<B>, AllocError>
-    requires put { (view put.pass).put ≡ [] }
-    requires settled { settled.book.total ≡ 0 }
-{
-    let mut office = Office::new(alloc, book, put, settled)?;
-    for job in jobs {
-        match office.arrive(job.clone()?) {
-            Ok(()) => {}
-            Err(ArriveError::NoMemory) => return Err(AllocError),
-            Err(ArriveError::Misfit { .. }) => break,
-        }
-    }
-    office.close_arrivals();
-    Ok(office)
-}
-
 /// Lets the clerk write what the workers have left, and gathers the tickets.
-fn finish<'a, B: QueueBrand, R: Wait, K: Sink, G: Gate>(
+fn finish<'s, 'k, B: QueueBrand, R: Wait, S: Source, K: Sink, G: Gate>(
     rt: &R,
     mut pooled: Pooled<B>,
     gate: &G,
-    mut clerk: Clerk<'a, K, Docket>,
-) -> Clerk<'a, K, Docket>
+    mut clerk: Clerk<'s, 'k, S, K, Docket>,
+) -> Clerk<'s, 'k, S, K, Docket>
     requires { B.parts ≡ 16 }
-    ensures same_sink { result.sink.ghost_name ≡ clerk.entry.sink.ghost_name }
+    ensures same_ports { (result.src.ghost_name ≡ clerk.entry.src.ghost_name) × (result.sink.ghost_name ≡ clerk.entry.sink.ghost_name) }
     ensures goes_on { GoesOn
-        (progress clerk.entry.docket (output (K.written clerk.entry.sink.now) (K.faults clerk.entry.sink.now)))
-        (progress result.docket (output (K.written result.sink.now) (K.faults result.sink.now))) }
-    ensures finished { result.docket.halt ≡ None → length result.docket.jobs.items ≤ result.docket.written }
+        (progress clerk.entry.docket (outside (S.left clerk.entry.src.now) (S.faults clerk.entry.src.now) (K.written clerk.entry.sink.now) (K.faults clerk.entry.sink.now)))
+        (progress result.docket (outside (S.left result.src.now) (S.faults result.src.now) (K.written result.sink.now) (K.faults result.sink.now))) }
+    ensures intake { result.docket.intake ≡ clerk.entry.docket.intake }
+    ensures halted { result.docket.halt ≡ None → clerk.entry.docket.halt ≡ None }
+    ensures finished { result.docket.halt ≡ None → length result.docket.intake.jobs.items ≤ result.docket.written }
 {
     write_rest(&mut pooled.office, gate, &mut clerk);
     if clerk.docket.is_free() {
@@ -135,16 +113,18 @@ fn finish<'a, B: QueueBrand, R: Wait, K: Sink, G: Gate>(
 }
 
 /// Lets the clerk write what is left, with what the workers have brought.
-fn write_rest<B: QueueBrand, K: Sink, G: Gate>(
+fn write_rest<B: QueueBrand, S: Source, K: Sink, G: Gate>(
     office: &mut Office<B>,
     gate: &G,
-    clerk: &mut Clerk<'_, K, Docket>,
+    clerk: &mut Clerk<'_, '_, S, K, Docket>,
 )
-    ensures same_sink { clerk.new.sink.ghost_name ≡ clerk.old.sink.ghost_name }
+    ensures same_ports { (clerk.new.src.ghost_name ≡ clerk.old.src.ghost_name) × (clerk.new.sink.ghost_name ≡ clerk.old.sink.ghost_name) }
     ensures goes_on { GoesOn
-        (progress clerk.old.docket (output (K.written clerk.old.sink.now) (K.faults clerk.old.sink.now)))
-        (progress clerk.new.docket (output (K.written clerk.new.sink.now) (K.faults clerk.new.sink.now))) }
-    ensures finished { clerk.new.docket.halt ≡ None → length clerk.new.docket.jobs.items ≤ clerk.new.docket.written }
+        (progress clerk.old.docket (outside (S.left clerk.old.src.now) (S.faults clerk.old.src.now) (K.written clerk.old.sink.now) (K.faults clerk.old.sink.now)))
+        (progress clerk.new.docket (outside (S.left clerk.new.src.now) (S.faults clerk.new.src.now) (K.written clerk.new.sink.now) (K.faults clerk.new.sink.now))) }
+    ensures intake { clerk.new.docket.intake ≡ clerk.old.docket.intake }
+    ensures halted { clerk.new.docket.halt ≡ None → clerk.old.docket.halt ≡ None }
+    ensures finished { clerk.new.docket.halt ≡ None → length clerk.new.docket.intake.jobs.items ≤ clerk.new.docket.written }
 {
     clerk.docket.tell(gate);
     while clerk.docket.has_more() {

@@ -1,5 +1,5 @@
 -- A reading, when one card more comes.
-use Rattle.std.proofs.Common.{◌≡◌, ℕ, suc, ◌+◌, ◌-◌, ◌^◌, ◌<◌, ◌≤◌, min, Bool, true, false, cond, not, ◌||◌, nat_lt, List, [], ◌∷◌, ◌++◌, length, IsSome, refl, sym, ap, subst, ◌∙◌, arith, sum_by, count_by}
+use Rattle.std.proofs.Common.{◌≡◌, ℕ, suc, ◌+◌, ◌-◌, ◌^◌, ◌<◌, ◌≤◌, min, Bool, true, false, cond, not, ◌||◌, nat_lt, List, [], ◌∷◌, ◌++◌, length, IsSome, refl, sym, ap, subst, ◌∙◌, arith, sum_by, count_by, append_assoc}
 use Rattle.std.proofs.lemmas.Bool.Decides.{nat_tests}
 use Rattle.std.proofs.lemmas.List.{length-append}
 use Rattle.std.proofs.lemmas.List.Sums.{sum_by_push, count_by-le-length, prefix_len-le-length}
@@ -11,12 +11,27 @@ use Rattle.deck_reader.specs.declared.reading.Stage.{Stage}
 use Rattle.deck_reader.specs.declared.reading.Stage.TheVariants.{Front, Inside, Outside}
 use Rattle.deck_reader.specs.JobView.{JobView}
 use Rattle.deck_reader.specs.Forms.{is_head, is_end}
-use Rattle.deck_reader.specs.Batch.{Run, runs, outside, before_head, account_on, with_account, opened, written, strays, job_of, jobs_of, batch_of}
-use Rattle.deck_reader.specs.Reading.{Pushes, IsOpenJob, closed, jobs_with, Closes, is_ended, AtStage, IsReading}
+use Rattle.deck_reader.specs.Batch.{Run, runs, outside, before_head, is_ended, account_on, with_account, opened, written, strays, job_of, jobs_of, batch_of}
+use Rattle.deck_reader.specs.Reading.{Pushes, IsOpenJob, closed, jobs_with, Closes, AtStage, IsReading, put_back}
 use Rattle.deck_reader.proofs.Firsts.{list_any-push, before-none, before-found, before-here, before-past, after-none, after-found, after-here, after-past}
 use Rattle.deck_reader.proofs.Openings.{opened-push}
 use Rattle.deck_reader.proofs.Runs.{with_card, length-before_first, outside_all-le, no_head, some_head, before_head-head, runs-head, runs-card, runs-front, length-runs, jobs_of-push}
 use Rattle.deck_reader.proofs.OpenJobs.{pushed, closed_is}
+
+back_with : (stage : Stage) (taken jobs : List JobView) → taken ++ jobs_with stage jobs ≡ jobs_with stage (taken ++ jobs)
+back_with Front taken jobs = refl
+back_with (Inside job) taken jobs = sym (append_assoc taken jobs (closed job ∷ []))
+back_with Outside taken jobs = refl
+
+-- a job is ended so, whatever jobs were taken before
+pub closes_back : (old new : Reading) (taken : List JobView) → Closes old new → Closes (put_back taken old) (put_back taken new)
+closes_back old new taken closes = record {
+  accounts = closes.accounts;
+  jobs = ap (λ (js : List JobView). taken ++ js) closes.jobs ∙ back_with old.stage taken old.jobs;
+  heads = closes.heads;
+  stray = closes.stray;
+  stage = closes.stage;
+}
 
 -- how many cards of one are written
 abbrev one : List ℕ → ℕ
@@ -280,7 +295,7 @@ fronted old new cards card opens few other at stage accounts more written_card j
       at_stage = subst S (sym stage') (no_runs, jobs ∙ front.1);
     }
 
-abbrev batch_with : List Account → List JobView → ℕ → Batch
+abbrev pub batch_with : List Account → List JobView → ℕ → Batch
 batch_with accounts jobs stray = record { accounts = accounts; jobs = jobs; stray = stray }
 
 -- a reading is the batch of its cards

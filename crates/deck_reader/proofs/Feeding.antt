@@ -10,7 +10,8 @@ use Rattle.deck_reader.specs.declared.reading.Reading.{Reading}
 use Rattle.deck_reader.specs.Cards.{cleaned, parts, all_but_last, ended, under_way, unless_empty, cards}
 use Rattle.deck_reader.specs.Forms.{is_head}
 use Rattle.deck_reader.specs.Batch.{passes}
-use Rattle.deck_reader.specs.Reading.{IsReading}
+use Rattle.deck_reader.specs.JobView.{JobView}
+use Rattle.deck_reader.specs.Reading.{IsReading, put_back}
 use Rattle.deck_reader.specs.Fed.{HasRead, StandsFor}
 use Rattle.deck_reader.proofs.Cuts.{ended-more, under_way-more, ended-feed, under_way-feed, ended-prefix}
 
@@ -30,11 +31,11 @@ few_cards : (bytes : List ℕ) → length bytes ≤ 4194304 → length (map clea
 few_cards bytes few = omega (arith, ended-le bytes, length-map (ended bytes) cleaned)
 
 -- the cards with the one that the line feed ended
-pub read_card : (old : Reader) (new : Reading) (input front held : List ℕ) → list_any (λ b. b == 10) front ≡ false → length input ≤ 4194304 → HasRead old input → held ≡ old.under_way.items ++ front
-    → ((cards : List (List ℕ)) → length cards < 2 ^ 31 → IsReading old.reading cards → IsReading new (cards ++ cleaned held ∷ []))
-    → IsReading new (map cleaned (ended (input ++ front ++ 10 ∷ [])))
-read_card old new input front held none few has holds step =
-    let P : List (List ℕ) → Type 0 = λ cs. IsReading new cs in
+pub read_card : (old : Reader) (new : Reading) (taken : List JobView) (input front held : List ℕ) → list_any (λ b. b == 10) front ≡ false → length input ≤ 4194304 → HasRead old taken input → held ≡ old.under_way.items ++ front
+    → ((cards : List (List ℕ)) → length cards < 2 ^ 31 → IsReading (put_back taken old.reading) cards → IsReading (put_back taken new) (cards ++ cleaned held ∷ []))
+    → IsReading (put_back taken new) (map cleaned (ended (input ++ front ++ 10 ∷ [])))
+read_card old new taken input front held none few has holds step =
+    let P : List (List ℕ) → Type 0 = λ cs. IsReading (put_back taken new) cs in
     let is : map cleaned (ended input) ++ cleaned held ∷ [] ≡ map cleaned (ended (input ++ front ++ 10 ∷ [])) =
     ap (λ (u : List ℕ). map cleaned (ended input) ++ cleaned u ∷ []) holds
     ∙ ap (λ (u : List ℕ). map cleaned (ended input) ++ cleaned (u ++ front) ∷ []) has.under_way_is
@@ -43,22 +44,22 @@ read_card old new input front held none few has holds step =
     subst P is (step (map cleaned (ended input)) (few_cards input few) has.read)
 
 -- a line feed ends the card under way
-pub fed_card : (old new : Reader) (input front held : List ℕ) → list_any (λ b. b == 10) front ≡ false → length input ≤ 4194304 → HasRead old input → held ≡ old.under_way.items ++ front
-    → ((cards : List (List ℕ)) → length cards < 2 ^ 31 → IsReading old.reading cards → IsReading new.reading (cards ++ cleaned held ∷ []))
-    → new.under_way.items ≡ [] → new.refused ≡ None → new.reading.heads ≤ 2000 → HasRead new (input ++ front ++ 10 ∷ [])
-fed_card old new input front held none few has holds step under refused heads = record {
+pub fed_card : (old new : Reader) (taken : List JobView) (input front held : List ℕ) → list_any (λ b. b == 10) front ≡ false → length input ≤ 4194304 → HasRead old taken input → held ≡ old.under_way.items ++ front
+    → ((cards : List (List ℕ)) → length cards < 2 ^ 31 → IsReading (put_back taken old.reading) cards → IsReading (put_back taken new.reading) (cards ++ cleaned held ∷ []))
+    → new.under_way.items ≡ [] → new.refused ≡ None → new.reading.heads ≤ 2000 → HasRead new taken (input ++ front ++ 10 ∷ [])
+fed_card old new taken input front held none few has holds step under refused heads = record {
   refuses_none = refused;
   under_way_is = under ∙ sym (under_way-feed input front);
-  read = read_card old new.reading input front held none few has holds step;
+  read = read_card old new.reading taken input front held none few has holds step;
   few_heads = heads;
 }
 
 -- bytes without a line feed belong to the card under way
-pub fed_rest : (old new : Reader) (input rest : List ℕ) → list_any (λ b. b == 10) rest ≡ false → HasRead old input
-    → new.reading ≡ old.reading → new.under_way.items ≡ old.under_way.items ++ rest → new.refused ≡ None → HasRead new (input ++ rest)
-fed_rest old new input rest none has reading under refused =
-    let P : List (List ℕ) → Type 0 = λ ps. IsReading new.reading (map cleaned ps) in
-    let Q : Reading → Type 0 = λ r. IsReading r (map cleaned (ended input)) in
+pub fed_rest : (old new : Reader) (taken : List JobView) (input rest : List ℕ) → list_any (λ b. b == 10) rest ≡ false → HasRead old taken input
+    → new.reading ≡ old.reading → new.under_way.items ≡ old.under_way.items ++ rest → new.refused ≡ None → HasRead new taken (input ++ rest)
+fed_rest old new taken input rest none has reading under refused =
+    let P : List (List ℕ) → Type 0 = λ ps. IsReading (put_back taken new.reading) (map cleaned ps) in
+    let Q : Reading → Type 0 = λ r. IsReading (put_back taken r) (map cleaned (ended input)) in
     let R : Reading → Type 0 = λ r. r.heads ≤ 2000 in
     record {
       refuses_none = refused;
@@ -97,16 +98,16 @@ beyond : (m n : ℕ) → m < n → nat_lt m n ≡ true
 beyond m n h = grind (arith, nat_tests)
 
 -- a reader that stands for its bytes hasn't passed a limit
-pub stands_fits : (reader : Reader) (input : List ℕ) → StandsFor reader input → passes input ≡ false
-stands_fits reader input stands =
+pub stands_fits : (reader : Reader) (taken : List JobView) (input : List ℕ) → StandsFor reader taken input → passes input ≡ false
+stands_fits reader taken input stands =
     let heads : reader.reading.heads ≡ count_by is_head (map cleaned (ended input)) = stands.has_read.read.heads_are in
     over_by (nat_lt 4194304 (length input)) (nat_lt 2000 (count_by is_head (map cleaned (ended input))))
     (within 4194304 (length input) stands.few_bytes)
     (within 2000 (count_by is_head (map cleaned (ended input))) (omega (arith, stands.has_read.few_heads)))
 
 -- too many heads, whatever comes behind them
-pub heads_pass : (reading : Reading) (input more : List ℕ) → IsReading reading (map cleaned (ended input)) → 2000 < reading.heads → passes (input ++ more) ≡ true
-heads_pass reading input more read many =
+pub heads_pass : (reading : Reading) (taken : List JobView) (input more : List ℕ) → IsReading (put_back taken reading) (map cleaned (ended input)) → 2000 < reading.heads → passes (input ++ more) ≡ true
+heads_pass reading taken input more read many =
     let prefix = ended-prefix input more in
     let f : List ℕ → ℕ = λ c. (if is_head c then 1 else 0) in
     let heads : reading.heads ≡ count_by is_head (map cleaned (ended input)) = read.heads_are in
@@ -118,10 +119,10 @@ heads_pass reading input more read many =
     (beyond 2000 (count_by is_head (map cleaned (ended (input ++ more)))) (omega arith))
 
 -- the cards of an input that ends with a line feed, or with nothing
-pub no_last : (reader : Reader) (input : List ℕ) → HasRead reader input → reader.under_way.items ≡ [] → IsReading reader.reading (cards input)
-no_last reader input has empty =
-    let P : List ℕ → Type 0 = λ u. IsReading reader.reading (map cleaned (ended input ++ unless_empty u)) in
-    let Q : List (List ℕ) → Type 0 = λ ps. IsReading reader.reading (map cleaned ps) in
+pub no_last : (reader : Reader) (taken : List JobView) (input : List ℕ) → HasRead reader taken input → reader.under_way.items ≡ [] → IsReading (put_back taken reader.reading) (cards input)
+no_last reader taken input has empty =
+    let P : List ℕ → Type 0 = λ u. IsReading (put_back taken reader.reading) (map cleaned (ended input ++ unless_empty u)) in
+    let Q : List (List ℕ) → Type 0 = λ ps. IsReading (put_back taken reader.reading) (map cleaned ps) in
     subst P (sym empty ∙ has.under_way_is) (subst Q (sym (append-nil (ended input))) has.read)
 
 unless_empty-some : (bytes : List ℕ) → 0 < length bytes → unless_empty bytes ≡ bytes ∷ []
@@ -129,10 +130,10 @@ unless_empty-some [] h = absurd (omega arith)
 unless_empty-some (b ∷ bytes) h = refl
 
 -- the cards of an input with a last card that no line feed ends
-pub with_last : (old : Reader) (new : Reading) (input : List ℕ) → length input ≤ 4194304 → HasRead old input → 0 < length old.under_way.items
-    → ((cards : List (List ℕ)) → length cards < 2 ^ 31 → IsReading old.reading cards → IsReading new (cards ++ cleaned old.under_way.items ∷ [])) → IsReading new (cards input)
-with_last old new input few has some step =
-    let P : List (List ℕ) → Type 0 = λ cs. IsReading new cs in
+pub with_last : (old : Reader) (new : Reading) (taken : List JobView) (input : List ℕ) → length input ≤ 4194304 → HasRead old taken input → 0 < length old.under_way.items
+    → ((cards : List (List ℕ)) → length cards < 2 ^ 31 → IsReading (put_back taken old.reading) cards → IsReading (put_back taken new) (cards ++ cleaned old.under_way.items ∷ [])) → IsReading (put_back taken new) (cards input)
+with_last old new taken input few has some step =
+    let P : List (List ℕ) → Type 0 = λ cs. IsReading (put_back taken new) cs in
     let is : map cleaned (ended input) ++ cleaned old.under_way.items ∷ [] ≡ cards input =
     sym (map-append cleaned (ended input) (old.under_way.items ∷ []))
     ∙ ap (λ (ps : List (List ℕ)). map cleaned (ended input ++ ps)) (sym (unless_empty-some old.under_way.items some))

@@ -14,3 +14,4 @@ pub mod OpenJobs
 pub mod Arrivals
 pub mod Feeding
 pub mod Limits
+pub mod Staying

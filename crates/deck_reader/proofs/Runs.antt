@@ -53,7 +53,7 @@ neither_of : (a b : Bool) → (a || b) ≡ false → (a ≡ false) × (b ≡ fal
 neither_of true b h = cc
 neither_of false b h = (refl, h)
 
-no_run : (cards : List (List ℕ)) → list_any is_head cards ≡ false → runs cards ≡ []
+pub no_run : (cards : List (List ℕ)) → list_any is_head cards ≡ false → runs cards ≡ []
 no_run [] h = refl
 no_run (card ∷ cards) h =
     let neither = neither_of (is_head card) (list_any is_head cards) h in

@@ -105,6 +105,24 @@ abbrev pub jobs_of : List Account → ℕ → List Run → List JobView
 jobs_of accounts number [] = []
 jobs_of accounts number (run ∷ runs) = job_of accounts number run.head (body run) ∷ jobs_of accounts (number + 1) runs
 
+-- a run that an end card has ended
+abbrev pub is_ended : Run → Bool
+is_ended run = list_any is_end run.behind
+
+-- the runs that are over: all but a last one that no end card has ended
+abbrev pub over : List Run → List Run
+over [] = []
+over (run ∷ []) = if is_ended run then run ∷ [] else []
+over (run ∷ next ∷ runs) = run ∷ over (next ∷ runs)
+
+-- the jobs that these cards have ended
+abbrev pub ended_jobs_of : List (List ℕ) → List JobView
+ended_jobs_of cards = jobs_of (opened (before_head cards)) 1 (over (runs cards))
+
+-- the accounts, once a head has come
+abbrev pub known_accounts_of : List (List ℕ) → Option (List Account)
+known_accounts_of cards = if list_any is_head cards then Some (opened (before_head cards)) else None
+
 -- how many of these cards aren't blank
 abbrev pub written : List (List ℕ) → ℕ
 written cards = count_by (λ c. nat_lt 0 (length c)) cards
@@ -121,6 +139,14 @@ batch_of cards =
 
 abbrev pub batch : List ℕ → Batch
 batch bytes = batch_of (cards bytes)
+
+-- the jobs that a part of an input has ended, by the cards that a line feed has ended
+abbrev pub ended_jobs : List ℕ → List JobView
+ended_jobs bytes = ended_jobs_of (map cleaned (ended bytes))
+
+-- the accounts that are known from a part of an input, once such a card has begun a job
+abbrev pub known_accounts : List ℕ → Option (List Account)
+known_accounts bytes = known_accounts_of (map cleaned (ended bytes))
 
 -- more than 4,194,304 bytes or 2,000 heads
 abbrev pub is_over : List ℕ → List (List ℕ) → Bool

@@ -3,21 +3,26 @@ use Rattle.std.specs.Prelude.{ℕ, ◌≡◌, ◌≤◌, List, Option, None, len
 use Rattle.deck_reader.specs.declared.reader.FeedError.{FeedError}
 use Rattle.deck_reader.specs.declared.reader.Reader.{Reader}
 use Rattle.deck_reader.specs.Cards.{cleaned, ended, under_way}
-use Rattle.deck_reader.specs.Reading.{IsReading}
+use Rattle.deck_reader.specs.JobView.{JobView}
+use Rattle.deck_reader.specs.Reading.{IsReading, put_back}
 
 -- why a reader refuses, where it does
 abbrev pub refusal : Reader → Option FeedError
 refusal reader = reader.refused
 
--- the reader has read these bytes, up to the card under way, and they pass no limit of heads
-pub record HasRead (reader : Reader) (input : List ℕ) : Type 0 where
+-- how many jobs can be taken
+abbrev pub left_to_take : Reader → ℕ
+left_to_take reader = length reader.reading.jobs
+
+-- the reader has read these bytes, up to the card under way, and they pass no limit of heads; these jobs were taken from it
+pub record HasRead (reader : Reader) (taken : List JobView) (input : List ℕ) : Type 0 where
   pub refuses_none : reader.refused ≡ None
   pub under_way_is : reader.under_way.items ≡ under_way input
-  pub read : IsReading reader.reading (map cleaned (ended input))
+  pub read : IsReading (put_back taken reader.reading) (map cleaned (ended input))
   pub few_heads : reader.reading.heads ≤ 2000
 
--- the reader was fed these bytes, and refused none of them
-pub record StandsFor (reader : Reader) (input : List ℕ) : Type 0 where
+-- the reader was fed these bytes, refused none of them, and these of their jobs were taken from it
+pub record StandsFor (reader : Reader) (taken : List JobView) (input : List ℕ) : Type 0 where
   pub fed_is : reader.fed ≡ length input
   pub few_bytes : length input ≤ 4194304
-  pub has_read : HasRead reader input
+  pub has_read : HasRead reader taken input

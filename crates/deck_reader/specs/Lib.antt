@@ -6,6 +6,7 @@ pub mod CardFlaws
 pub mod Flaws
 pub mod JobView
 pub mod Batch
+pub mod BatchLaws
 pub mod Reading
 pub mod Fed
 pub mod JobEquality

@@ -8,8 +8,8 @@ use Rattle.deck_reader.specs.declared.open_job.OpenJob.{OpenJob}
 use Rattle.deck_reader.specs.declared.reading.Reading.{Reading}
 use Rattle.deck_reader.specs.declared.reading.Stage.{Stage}
 use Rattle.deck_reader.specs.declared.reading.Stage.TheVariants.{Front, Inside, Outside}
-use Rattle.deck_reader.specs.Forms.{is_head, is_data, is_end, job_card, counted}
-use Rattle.deck_reader.specs.Batch.{Run, runs, before_head, opened, strays, written, jobs_of, is_in_range, account_for, job_from}
+use Rattle.deck_reader.specs.Forms.{is_head, is_data, job_card, counted}
+use Rattle.deck_reader.specs.Batch.{Run, runs, before_head, opened, strays, written, jobs_of, is_in_range, is_ended, account_for, job_from}
 use Rattle.deck_reader.specs.JobView.{JobView}
 use Rattle.deck_reader.specs.CardFlaws.{is_long, is_foul}
 
@@ -63,10 +63,6 @@ pub record Closes (old new : Reading) : Type 0 where
   pub stray : new.stray ≡ old.stray
   pub stage : new.stage ≡ Outside
 
--- a run that an end card has ended
-abbrev pub is_ended : Run → Bool
-is_ended run = list_any is_end run.behind
-
 -- the stage says whether there is a last run, and whether it has ended; while it hasn't, its job stands open behind the others
 abbrev pub AtStage : Stage → List Account → List (List ℕ) → List JobView → Type 0
 AtStage Front accounts cards jobs = (runs cards ≡ []) × (jobs ≡ [])
@@ -82,10 +78,15 @@ pub record IsReading (reading : Reading) (cards : List (List ℕ)) : Type 0 wher
   pub stray_is : reading.stray ≡ strays cards
   pub at_stage : AtStage reading.stage reading.accounts cards reading.jobs
 
+-- a reading from which jobs were taken, with these jobs in front of those that it keeps
+abbrev pub put_back : List JobView → Reading → Reading
+put_back taken reading = record reading { jobs = taken ++ reading.jobs }
+
 -- a count of stray cards, with a card that is one unless it is blank
 abbrev pub with_stray : ℕ → List ℕ → ℕ
 with_stray count card = if nat_lt 0 (length card) then min (count + 1) (2 ^ 32 - 1) else count
 
--- where a call ends well, it has taken a card: the reading of any cards became that of these and this one behind them
+-- where a call ends well, it has read a card: the reading of any cards became that of these and this one behind them, whatever jobs were taken
 abbrev pub TakesCard : {A E : Type 0} → Reading → Reading → List ℕ → Result A E → Type 0
-TakesCard old new card result = (cards : List (List ℕ)) → length cards < 2 ^ 31 → IsReading old cards → OnOk result (IsReading new (cards ++ card ∷ []))
+TakesCard old new card result =
+    (taken : List JobView) (cards : List (List ℕ)) → length cards < 2 ^ 31 → IsReading (put_back taken old) cards → OnOk result (IsReading (put_back taken new) (cards ++ card ∷ []))

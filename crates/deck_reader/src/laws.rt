@@ -1,5 +1,6 @@
 ghost use Rattle.deck_reader.specs.CardForms.{JobCardByParts, AccountCardByParts};
 ghost use Rattle.deck_reader.specs.CardLaws.{PiecesJoined};
+ghost use Rattle.deck_reader.specs.BatchLaws.{AccountsStay, JobsStay};
 ghost use Rattle.deck_reader.specs.JobEquality.{EqualJobsAreSame};
 
 /// A card gives a job's parts exactly where it is a job card with these parts.
@@ -15,6 +16,16 @@ pub fn account_card_by_parts()
 /// The pieces, put together with line feeds, are the input again.
 pub fn pieces_joined()
     ensures { PiecesJoined }
+{}
+
+/// The jobs that a part of an input has ended are the first jobs of the whole.
+pub fn jobs_stay()
+    ensures { JobsStay }
+{}
+
+/// The accounts that are known from a part of an input are those of the whole.
+pub fn accounts_stay()
+    ensures { AccountsStay }
 {}
 
 /// Two jobs are equal exactly where they are the same.

@@ -9,13 +9,19 @@ mod forms;
 mod laws;
 mod listed;
 mod open_job;
+mod queue;
 mod reader;
 mod reading;
+#[cfg(test)]
+mod tests;
 
 pub use accounts::find_account;
 pub use batch::{Account, Batch, Flaw, Job};
 pub use bytes::split_once;
-pub use laws::{account_card_by_parts, equal_jobs_are_same, job_card_by_parts, pieces_joined};
+pub use laws::{
+    account_card_by_parts, accounts_stay, equal_jobs_are_same, job_card_by_parts, jobs_stay,
+    pieces_joined,
+};
 pub use listed::Listed;
 pub use reader::{FeedError, Reader};
 pub use value_ops::{Card, Name};

@@ -28,6 +28,13 @@ impl<T> Listed<T> {
         }
     }
 
+    /// The items of a vector of std.
+    pub(crate) fn from_vec(items: Vec<T>) -> Listed<T>
+        ensures { result ≡ items.items }
+    {
+        Listed { items }
+    }
+
     /// Adds an item at the end. Where memory is wanting, the list stays as it was.
     pub fn push(&mut self, item: T) -> Result<(), AllocError>
     where

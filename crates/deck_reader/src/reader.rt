@@ -1,10 +1,11 @@
-ghost use Rattle.std.specs.Prelude.{◌≡◌, ◌≤◌, ◌++◌, [], List, ℕ, true, false, None, Some, IfOk, IfErr, OnOk, IsErrOf, length};
-ghost use Rattle.deck_reader.specs.Batch.{batch, passes, too_large};
+ghost use Rattle.std.specs.Prelude.{◌≡◌, ◌≤◌, ◌+◌, ◌++◌, ◌∷◌, [], List, ℕ, true, false, None, Some, IfOk, IfErr, IfNone, IfSome, OnOk, OnSome, IsErrOf, MatchOption, length};
+ghost use Rattle.deck_reader.specs.Batch.{batch, ended_jobs, known_accounts, passes, too_large};
+ghost use Rattle.deck_reader.specs.JobView.{JobView};
 
-use crate::batch::Batch;
+use crate::batch::{Account, Batch, Job};
 use crate::bytes::split_once;
 use crate::cleaning::clean_into;
-use crate::reading::Reading;
+use crate::reading::{Reading, Stage};
 use std::alloc::{AllocError, Global};
 
 /// The most bytes of a batch.
@@ -34,7 +35,7 @@ impl From<AllocError> for FeedError {
 }
 
 /// A reader of a batch, which is fed the input in pieces of any size, and reads each as it comes. It keeps the cards of
-/// the jobs that may still run and the card under way. Once it has refused a piece it gives the same answer from then on.
+/// the jobs that may still run, until they are taken, and the card under way. Once it has refused a piece it gives the same answer from then on.
 #[derive(Drop)]
 pub struct Reader {
     alloc: Global,
@@ -51,13 +52,13 @@ pub struct Reader {
 }
 
 impl Reader {
-    ghost use Rattle.deck_reader.specs.Fed.{StandsFor, refusal};
-    ghost use Rattle.deck_reader.specs.Reading.{IsReading, TakesCard};
+    ghost use Rattle.deck_reader.specs.Fed.{StandsFor, left_to_take, refusal};
+    ghost use Rattle.deck_reader.specs.Reading.{IsReading, TakesCard, put_back};
     ghost use Rattle.deck_reader.specs.Cards.{cleaned, cards};
 
     /// A reader that was fed nothing.
     pub fn new(alloc: Global) -> Result<Reader, AllocError>
-        ensures { IfOk result (λ r. StandsFor r []) }
+        ensures { IfOk result (λ r. StandsFor r [] []) }
     {
         Ok(Reader {
             alloc,
@@ -71,11 +72,11 @@ impl Reader {
 
     /// Takes the next bytes. They are refused as too large exactly where all bytes fed so far pass a limit.
     pub fn feed(&mut self, bytes: &[u8]) -> Result<(), FeedError>
-        ensures fed { (input : List ℕ) → StandsFor self.old input →
-            OnOk result (StandsFor self.new (input ++ bytes.now)) }
-        ensures fits { (input : List ℕ) → StandsFor self.old input →
+        ensures fed { (taken : List JobView) (input : List ℕ) → StandsFor self.old taken input →
+            OnOk result (StandsFor self.new taken (input ++ bytes.now)) }
+        ensures fits { (taken : List JobView) (input : List ℕ) → StandsFor self.old taken input →
             OnOk result (passes (input ++ bytes.now) ≡ false) }
-        ensures large { (input : List ℕ) → StandsFor self.old input → IsErrOf result FeedError.TooLarge →
+        ensures large { (taken : List JobView) (input : List ℕ) → StandsFor self.old taken input → IsErrOf result FeedError.TooLarge →
             passes (input ++ bytes.now) ≡ true }
         ensures refused { IfErr result (λ e. refusal self.new ≡ Some e) }
         ensures kept { (e : FeedError) → refusal self.old ≡ Some e →
@@ -91,12 +92,38 @@ impl Reader {
         taken
     }
 
-    /// The batch of all bytes fed.
+    /// The accounts, once a card has begun a job: no later byte changes them.
+    pub fn accounts(&self) -> Option<&[Account]>
+        ensures known { (taken : List JobView) (input : List ℕ) → StandsFor self.now taken input →
+            MatchOption result (known_accounts input ≡ None) (λ a. known_accounts input ≡ Some a.now) }
+        ensures few { IfSome result (λ a. length a.now ≤ 500) }
+    {
+        match self.reading.stage {
+            Stage::Front => None,
+            _ => Some(self.reading.accounts.as_slice()),
+        }
+    }
+
+    /// Takes the next job that a card has ended, where there is one: its end card, or the card that begins the next job.
+    /// It takes no memory.
+    pub fn take_job(&mut self) -> Option<Job>
+        ensures next { (taken : List JobView) (input : List ℕ) → StandsFor self.old taken input →
+            IfSome result (λ job. StandsFor self.new (taken ++ job ∷ []) input) }
+        ensures none { (taken : List JobView) (input : List ℕ) → StandsFor self.old taken input →
+            IfNone result (ended_jobs input ≡ taken) }
+        ensures kept { (taken : List JobView) (input : List ℕ) → StandsFor self.old taken input →
+            IfNone result (StandsFor self.new taken input) }
+        ensures fewer { OnSome result (left_to_take self.new + 1 ≡ left_to_take self.old) }
+    {
+        self.reading.jobs.pop()
+    }
+
+    /// The batch of all bytes fed, but for the jobs that were taken.
     pub fn finish(mut self) -> Result<Batch, FeedError>
-        ensures batch { (input : List ℕ) → StandsFor self input → IfOk result (λ b. b ≡ batch input) }
+        ensures batch { (taken : List JobView) (input : List ℕ) → StandsFor self taken input → IfOk result (λ b. record b { jobs = taken ++ b.jobs } ≡ batch input) }
         ensures few { IfOk result (λ b. length b.accounts ≤ 500) }
-        ensures fits { (input : List ℕ) → StandsFor self input → OnOk result (too_large input ≡ false) }
-        ensures large { (input : List ℕ) → StandsFor self input → IsErrOf result FeedError.TooLarge →
+        ensures fits { (taken : List JobView) (input : List ℕ) → StandsFor self taken input → OnOk result (too_large input ≡ false) }
+        ensures large { (taken : List JobView) (input : List ℕ) → StandsFor self taken input → IsErrOf result FeedError.TooLarge →
             too_large input ≡ true }
         ensures kept { (e : FeedError) → refusal self ≡ Some e → result ≡ Err e }
     {
@@ -111,11 +138,11 @@ impl Reader {
     }
 
     fn take(&mut self, bytes: &[u8]) -> Result<(), FeedError>
-        ensures fed { (input : List ℕ) → StandsFor self.old input →
-            OnOk result (StandsFor self.new (input ++ bytes.now)) }
-        ensures fits { (input : List ℕ) → StandsFor self.old input →
+        ensures fed { (taken : List JobView) (input : List ℕ) → StandsFor self.old taken input →
+            OnOk result (StandsFor self.new taken (input ++ bytes.now)) }
+        ensures fits { (taken : List JobView) (input : List ℕ) → StandsFor self.old taken input →
             OnOk result (passes (input ++ bytes.now) ≡ false) }
-        ensures large { (input : List ℕ) → StandsFor self.old input → IsErrOf result FeedError.TooLarge →
+        ensures large { (taken : List JobView) (input : List ℕ) → StandsFor self.old taken input → IsErrOf result FeedError.TooLarge →
             passes (input ++ bytes.now) ≡ true }
     {
         if bytes.len() > MOST_BYTES || self.fed > MOST_BYTES - bytes.len() {
@@ -137,8 +164,8 @@ impl Reader {
 
     /// Reads the card under way, where the input ends with one.
     fn end_input(&mut self) -> Result<(), AllocError>
-        ensures read { (input : List ℕ) → StandsFor self.old input →
-            OnOk result (IsReading self.new.reading (cards input)) }
+        ensures read { (taken : List JobView) (input : List ℕ) → StandsFor self.old taken input →
+            OnOk result (IsReading (put_back taken self.new.reading) (cards input)) }
     {
         if self.under_way.is_empty() {
             return Ok(());

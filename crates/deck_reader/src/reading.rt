@@ -1,10 +1,12 @@
-ghost use Rattle.std.specs.Prelude.{◌≡◌, ◌≤◌, [], ℕ, List, true, IfOk, OnOk, length};
+ghost use Rattle.std.specs.Prelude.{◌≡◌, ◌≤◌, ◌++◌, [], ℕ, List, true, IfOk, OnOk, length};
 ghost use Rattle.deck_reader.specs.Batch.{batch_of};
 ghost use Rattle.deck_reader.specs.Forms.{is_head};
+ghost use Rattle.deck_reader.specs.JobView.{JobView};
 
 use crate::batch::{Account, Batch, Job};
 use crate::listed::Listed;
 use crate::open_job::OpenJob;
+use crate::queue::Queue;
 use crate::{accounts, forms};
 use std::alloc::{AllocError, Global};
 use std::mem;
@@ -25,8 +27,8 @@ pub enum Stage {
 pub struct Reading {
     /// The accounts opened.
     pub accounts: Listed<Account>,
-    /// The jobs whose cards have all come.
-    pub jobs: Listed<Job>,
+    /// The jobs whose cards have all come, but for those that were taken.
+    pub jobs: Queue<Job>,
     /// How many cards began a job.
     pub heads: u32,
     /// How many cards were stray.
@@ -37,7 +39,7 @@ pub struct Reading {
 }
 
 impl Reading {
-    ghost use Rattle.deck_reader.specs.Reading.{IsReading, TakesCard, Closes, with_stray};
+    ghost use Rattle.deck_reader.specs.Reading.{IsReading, TakesCard, Closes, put_back, with_stray};
 
     /// Before the first card.
     pub fn new(alloc: Global) -> Reading
@@ -45,7 +47,7 @@ impl Reading {
     {
         Reading {
             accounts: Listed::new(alloc),
-            jobs: Listed::new(alloc),
+            jobs: Queue::new(alloc),
             heads: 0,
             stray: 0,
             stage: Stage::Front,
@@ -109,16 +111,16 @@ impl Reading {
         }
     }
 
-    /// The batch, whose cards have all come.
+    /// The batch, whose cards have all come, with the jobs that weren't taken.
     pub fn finish(mut self, alloc: Global) -> Result<Batch, AllocError>
-        ensures batch { (cards : List (List ℕ)) → IsReading self cards →
-            IfOk result (λ b. b ≡ batch_of cards) }
+        ensures batch { (taken : List JobView) (cards : List (List ℕ)) → IsReading (put_back taken self) cards →
+            IfOk result (λ b. record b { jobs = taken ++ b.jobs } ≡ batch_of cards) }
         ensures few { IfOk result (λ b. length b.accounts ≤ 500) }
     {
         self.close_job(alloc)?;
         Ok(Batch {
             accounts: self.accounts,
-            jobs: self.jobs,
+            jobs: self.jobs.into_listed(),
             stray: self.stray,
         })
     }

@@ -32,27 +32,30 @@ pub fn compile_deck(alloc: Global, deck: &[Card]) -> Result<Compiled, AllocError
     ensures { IfOk result (λ compiled. CompilesTo deck.now compiled) }
 {
     match scan(alloc, deck)? {
-        Scanned::Tokens(tokens) => compile_tokens(alloc, tokens.as_slice()),
+        Scanned::Tokens(tokens) => compile_tokens(alloc, tokens),
         Scanned::Bad(fault) => Ok(Compiled::Diagnosed(vec![in alloc; fault]?)),
     }
 }
 
-/// Compiles the tokens of a deck.
-fn compile_tokens(alloc: Global, tokens: &[Token]) -> Result<Compiled, AllocError>
-    requires ended { IsEnded tokens.now }
-    requires are { (deck : List (List ℕ)) × AreTokens deck tokens.now }
-    ensures { (deck : List (List ℕ)) → AreTokens deck tokens.now → IfOk result (λ compiled. CompilesTo deck compiled) }
+/// Compiles the tokens of a deck. They are gone before what they spell is compiled.
+fn compile_tokens(alloc: Global, tokens: Vec<Token>) -> Result<Compiled, AllocError>
+    requires ended { IsEnded tokens.items }
+    requires are { (deck : List (List ℕ)) × AreTokens deck tokens.items }
+    ensures { (deck : List (List ℕ)) → AreTokens deck tokens.items →
+        IfOk result (λ compiled. CompilesTo deck compiled) }
 {
-    match parse(alloc, tokens)? {
-        Parsed::Tree(phrase) => compile_phrase(alloc, &phrase),
+    let parsed = parse(alloc, tokens.as_slice())?;
+    drop(tokens);
+    match parsed {
+        Parsed::Tree(phrase) => compile_phrase(alloc, phrase),
         Parsed::Bad(fault) => Ok(Compiled::Diagnosed(vec![in alloc; fault]?)),
     }
 }
 
 /// Compiles the program that the tokens of a deck spell.
-fn compile_phrase(alloc: Global, phrase: &Phrase) -> Result<Compiled, AllocError>
+fn compile_phrase(alloc: Global, phrase: Phrase) -> Result<Compiled, AllocError>
     ghost x: { spelled.Phrase }
-    requires is { x ≡ tree phrase.now }
+    requires is { x ≡ tree phrase }
     requires spelled { (deck : List (List ℕ)) × HasProgram deck x }
     ensures { (deck : List (List ℕ)) → HasProgram deck x → IfOk result (λ compiled. CompilesTo deck compiled) }
 {

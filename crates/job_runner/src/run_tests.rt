@@ -1,4 +1,4 @@
-use crate::{Desk, push_number, run_job};
+use crate::{Desk, hostile_decks, push_number, run_job};
 use deck_reader::{Batch, FeedError, Job, Reader};
 use std::alloc::{AllocError, Global};
 use std::sync::Arc;
@@ -609,9 +609,9 @@ ENDED NORMALLY
 CARDS 5 STEPS 5 LINES 1 CHARGE 8
 ";
 
-fn read(alloc: Global) -> Result<Batch, FeedError> {
+fn read(alloc: Global, input: &str) -> Result<Batch, FeedError> {
     let mut reader = Reader::new(alloc)?;
-    reader.feed(JOBS.as_bytes())?;
+    reader.feed(input.as_bytes())?;
     reader.finish()
 }
 
@@ -630,18 +630,23 @@ fn push_title(out: &mut Vec<u8>, job: &Job) -> Result<(), AllocError> {
 #[test]
 fn gives_each_job_its_section(rt: HostRuntime) -> Result<(), Fail> {
     let alloc = rt.alloc();
-    let batch = read(alloc)?;
     let mut desk = Desk::new(alloc)?;
-    let mut sections = Vec::new(alloc);
-    for job in batch.jobs.into_vec() {
-        let job = Arc::new(alloc, job)?;
-        push_title(&mut sections, &job)?;
-        if job.flaw.is_none() {
-            let ended = run_job(alloc, &mut desk, &job)?;
-            sections.extend_from_slice(ended.body())?;
-            assert_eq!(rt; desk.steps(), ended.counts().steps);
+    for (input, wanted) in [
+        (JOBS, SECTIONS),
+        (hostile_decks::JOBS, hostile_decks::SECTIONS),
+    ] {
+        let batch = read(alloc, input)?;
+        let mut sections = Vec::new(alloc);
+        for job in batch.jobs.into_vec() {
+            let job = Arc::new(alloc, job)?;
+            push_title(&mut sections, &job)?;
+            if job.flaw.is_none() {
+                let ended = run_job(alloc, &mut desk, &job)?;
+                sections.extend_from_slice(ended.body())?;
+                assert_eq!(rt; desk.steps(), ended.counts().steps);
+            }
         }
+        assert_eq!(rt; sections.as_slice(), wanted.as_bytes());
     }
-    assert_eq!(rt; sections.as_slice(), SECTIONS.as_bytes());
     Ok(())
 }

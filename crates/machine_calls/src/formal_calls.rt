@@ -16,7 +16,7 @@ ghost use Rattle.machine_calls.specs.Found as found;
 ghost use Rattle.machine_calls.specs.Rows.{Goes, Lands};
 
 use crate::comparing::{actuals_fit, is_same, text_at};
-use crate::next::{Given, Next, Registers, go_to};
+use crate::next::{Given, Next, go_to};
 use crate::texts::{call_procedure, enter_aside, hold_thunk, procedure_at, use_thunk};
 use algolw_tree::Gives;
 use cell_store::{Closed, Procedure, Purpose, Store, Wide};
@@ -81,24 +81,26 @@ fn hold_source(state: &mut State, source: Source) -> Held
 
 /// The actuals of a call are compared with the formals of what is called, which may be a copied actual: then that is used.
 /// F10, L1, L4.
-pub fn compare(state: &mut State, given: &Given, call: u32, now: Registers) -> Next
+pub fn compare(state: &mut State, given: &Given, call: u32, pc: u32, held: Held) -> Next
     ghost seen: { Seen }
     requires stands { Stands seen state.old }
     requires given { IsGiven seen given.now }
-    requires pc { seen.pc ≡ now.pc }
+    requires pc { seen.pc ≡ pc }
     requires here { seen.pc < length seen.code.instructions }
     requires call { call < length seen.code.added.calls }
-    requires clear { IsClear (row_of seen 0 (instr.Compare call) (machine_of seen state.old now.held)) }
-    requires lands { Lands seen (row_of seen 0 (instr.Compare call) (machine_of seen state.old now.held)) }
-    ensures { Goes seen state.new now.held result (row_of seen 0 (instr.Compare call) (machine_of seen state.old now.held)) }
+    requires clear { IsClear (row_of seen 0 (instr.Compare call) (machine_of seen state.old held)) }
+    requires lands { Lands seen (row_of seen 0 (instr.Compare call) (machine_of seen state.old held)) }
+    ensures { Goes seen state.new held result (row_of seen 0 (instr.Compare call) (machine_of seen state.old held)) }
 {
     let call = given.code.call(call);
     let Some(called) = source_out(&state.store, call.source) else {
         unreachable!()
     };
     match called {
-        Wide::Procedure(procedure) => compare_procedure(state, given.code, procedure, call, now),
-        Wide::Thunk(thunk) => compare_thunk(state, given.steps, thunk, call, now.held),
+        Wide::Procedure(procedure) => compare_procedure(
+            state, given.code, procedure, call, pc, held,
+        ),
+        Wide::Thunk(thunk) => compare_thunk(state, given.steps, thunk, call, held),
         _ => unreachable!(),
     }
 }
@@ -109,21 +111,22 @@ fn compare_procedure(
     code: &Code,
     procedure: Procedure,
     call: &ComparedCall,
-    now: Registers,
+    pc: u32,
+    held: Held,
 ) -> Next
     ghost seen: { Seen }
     requires stands { Stands seen state.now }
     requires code { seen.code ≡ code.now }
-    requires pc { seen.pc ≡ now.pc }
+    requires pc { seen.pc ≡ pc }
     requires here { seen.pc < length seen.code.instructions }
-    requires clear { IsClear (fitting.compare_row seen call.now (wide.Procedure procedure) (machine_of seen state.now now.held)) }
-    ensures { Goes seen state.now now.held result (fitting.compare_row seen call.now (wide.Procedure procedure) (machine_of seen state.now now.held)) }
+    requires clear { IsClear (fitting.compare_row seen call.now (wide.Procedure procedure) (machine_of seen state.now held)) }
+    ensures { Goes seen state.now held result (fitting.compare_row seen call.now (wide.Procedure procedure) (machine_of seen state.now held)) }
 {
     if !call.compares {
-        return go_to(now.pc + 1, now.held);
+        return go_to(pc + 1, held);
     }
     if they_fit(&state.store, code, procedure, call) {
-        return go_to(now.pc + 1, now.held);
+        return go_to(pc + 1, held);
     }
     Next::Halted(Halt::Fault(Fault::ActualsDoNotFit))
 }
@@ -181,16 +184,23 @@ fn actual_head(call: &ComparedCall, number: u32) -> u32
 }
 
 /// An actual of a call is prepared for its formal.
-pub fn prepare(state: &mut State, given: &Given, call: u32, formal: u32, now: Registers) -> Next
+pub fn prepare(
+    state: &mut State,
+    given: &Given,
+    call: u32,
+    formal: u32,
+    pc: u32,
+    held: Held,
+) -> Next
     ghost seen: { Seen }
     requires stands { Stands seen state.old }
     requires given { IsGiven seen given.now }
-    requires pc { seen.pc ≡ now.pc }
+    requires pc { seen.pc ≡ pc }
     requires here { seen.pc < length seen.code.instructions }
     requires fits { InstrRuns seen.code.given seen.code.added (instr.Prepare call formal) }
-    requires clear { IsClear (row_of seen 0 (instr.Prepare call formal) (machine_of seen state.old now.held)) }
-    requires lands { Lands seen (row_of seen 0 (instr.Prepare call formal) (machine_of seen state.old now.held)) }
-    ensures { Goes seen state.new now.held result (row_of seen 0 (instr.Prepare call formal) (machine_of seen state.old now.held)) }
+    requires clear { IsClear (row_of seen 0 (instr.Prepare call formal) (machine_of seen state.old held)) }
+    requires lands { Lands seen (row_of seen 0 (instr.Prepare call formal) (machine_of seen state.old held)) }
+    ensures { Goes seen state.new held result (row_of seen 0 (instr.Prepare call formal) (machine_of seen state.old held)) }
 {
     let call = given.code.call(call);
     let head = actual_head(call, formal);
@@ -198,11 +208,11 @@ pub fn prepare(state: &mut State, given: &Given, call: u32, formal: u32, now: Re
     let is = formal_at(given.code, procedure.head, formal);
     match text_at(given.code, head).reading {
         Reading::Phrase { is_variable, gives } => {
-            prepare_phrase(state, given.code, is, head, is_variable, gives, now)
+            prepare_phrase(state, given.code, is, head, is_variable, gives, pc, held)
         }
-        Reading::Name(source) => prepare_name(state, is, head, source, now),
-        Reading::Subarray { .. } => enter_aside(state, Purpose::Value, None, head, now),
-        Reading::Nothing => prepare_nothing(state, is, head, now),
+        Reading::Name(source) => prepare_name(state, is, head, source, pc, held),
+        Reading::Subarray { .. } => enter_aside(state, Purpose::Value, None, head, pc, held),
+        Reading::Nothing => prepare_nothing(state, is, head, pc, held),
     }
 }
 
@@ -223,29 +233,30 @@ fn prepare_phrase(
     head: u32,
     is_variable: bool,
     gives: Gives,
-    now: Registers,
+    pc: u32,
+    held: Held,
 ) -> Next
     ghost seen: { Seen }
     requires stands { Stands seen state.old }
     requires code { seen.code ≡ code.now }
-    requires pc { seen.pc ≡ now.pc }
+    requires pc { seen.pc ≡ pc }
     requires here { seen.pc < length seen.code.instructions }
     requires is { FormalTypeRuns seen.code.given is }
     requires gives { GivesRuns seen.code.given gives }
-    requires clear { IsClear (table.prepare_phrase seen.code.marks (formal_type_view seen.code.given is) head is_variable (gives_view (numbers seen.code.given) gives) (machine_of seen state.old now.held)) }
-    requires lands { Lands seen (table.prepare_phrase seen.code.marks (formal_type_view seen.code.given is) head is_variable (gives_view (numbers seen.code.given) gives) (machine_of seen state.old now.held)) }
-    ensures { Goes seen state.new now.held result (table.prepare_phrase seen.code.marks (formal_type_view seen.code.given is) head is_variable (gives_view (numbers seen.code.given) gives) (machine_of seen state.old now.held)) }
+    requires clear { IsClear (table.prepare_phrase seen.code.marks (formal_type_view seen.code.given is) head is_variable (gives_view (numbers seen.code.given) gives) (machine_of seen state.old held)) }
+    requires lands { Lands seen (table.prepare_phrase seen.code.marks (formal_type_view seen.code.given is) head is_variable (gives_view (numbers seen.code.given) gives) (machine_of seen state.old held)) }
+    ensures { Goes seen state.new held result (table.prepare_phrase seen.code.marks (formal_type_view seen.code.given is) head is_variable (gives_view (numbers seen.code.given) gives) (machine_of seen state.old held)) }
 {
     match is {
         FormalType::Value(kind) | FormalType::ValueResult(kind) => {
-            enter_aside(state, Purpose::Value, Some(kind), head, now)
+            enter_aside(state, Purpose::Value, Some(kind), head, pc, held)
         }
-        FormalType::Result(_) => ready(Held::NOTHING, now.pc),
+        FormalType::Result(_) => ready(Held::NOTHING, pc),
         FormalType::ByName(kind) => {
             let variable = is_variable && gives_same(code, gives, kind);
-            ready(hold_thunk(state, variable, Some(kind), head), now.pc)
+            ready(hold_thunk(state, variable, Some(kind), head), pc)
         }
-        FormalType::Procedure(result) => ready(hold_thunk(state, false, result, head), now.pc),
+        FormalType::Procedure(result) => ready(hold_thunk(state, false, result, head), pc),
         FormalType::Array { .. } => unreachable!(),
     }
 }
@@ -269,41 +280,42 @@ fn prepare_name(
     is: FormalType,
     head: u32,
     source: Source,
-    now: Registers,
+    pc: u32,
+    held: Held,
 ) -> Next
     ghost seen: { Seen }
     requires stands { Stands seen state.old }
-    requires pc { seen.pc ≡ now.pc }
+    requires pc { seen.pc ≡ pc }
     requires here { seen.pc < length seen.code.instructions }
     requires is { FormalTypeRuns seen.code.given is }
-    requires clear { IsClear (table.prepare_name seen.code.marks (formal_type_view seen.code.given is) head (source_view source) (machine_of seen state.old now.held)) }
-    requires lands { Lands seen (table.prepare_name seen.code.marks (formal_type_view seen.code.given is) head (source_view source) (machine_of seen state.old now.held)) }
-    ensures { Goes seen state.new now.held result (table.prepare_name seen.code.marks (formal_type_view seen.code.given is) head (source_view source) (machine_of seen state.old now.held)) }
+    requires clear { IsClear (table.prepare_name seen.code.marks (formal_type_view seen.code.given is) head (source_view source) (machine_of seen state.old held)) }
+    requires lands { Lands seen (table.prepare_name seen.code.marks (formal_type_view seen.code.given is) head (source_view source) (machine_of seen state.old held)) }
+    ensures { Goes seen state.new held result (table.prepare_name seen.code.marks (formal_type_view seen.code.given is) head (source_view source) (machine_of seen state.old held)) }
 {
     match is {
-        FormalType::Value(kind) => enter_aside(state, Purpose::Value, Some(kind), head, now),
-        FormalType::ByName(kind) => { ready(hold_thunk(state, false, Some(kind), head), now.pc) }
+        FormalType::Value(kind) => enter_aside(state, Purpose::Value, Some(kind), head, pc, held),
+        FormalType::ByName(kind) => { ready(hold_thunk(state, false, Some(kind), head), pc) }
         FormalType::Procedure(_) | FormalType::Array { .. } => {
-            ready(hold_source(state, source), now.pc)
+            ready(hold_source(state, source), pc)
         }
         FormalType::Result(_) | FormalType::ValueResult(_) => unreachable!(),
     }
 }
 
 /// What stands for nothing is prepared: by name its text is copied all the same.
-fn prepare_nothing(state: &mut State, is: FormalType, head: u32, now: Registers) -> Next
+fn prepare_nothing(state: &mut State, is: FormalType, head: u32, pc: u32, held: Held) -> Next
     ghost seen: { Seen }
     requires stands { Stands seen state.old }
-    requires pc { seen.pc ≡ now.pc }
+    requires pc { seen.pc ≡ pc }
     requires here { seen.pc < length seen.code.instructions }
     requires is { FormalTypeRuns seen.code.given is }
-    requires clear { IsClear (table.prepare_nothing seen.code.marks (formal_type_view seen.code.given is) head (machine_of seen state.old now.held)) }
-    requires lands { Lands seen (table.prepare_nothing seen.code.marks (formal_type_view seen.code.given is) head (machine_of seen state.old now.held)) }
-    ensures { Goes seen state.new now.held result (table.prepare_nothing seen.code.marks (formal_type_view seen.code.given is) head (machine_of seen state.old now.held)) }
+    requires clear { IsClear (table.prepare_nothing seen.code.marks (formal_type_view seen.code.given is) head (machine_of seen state.old held)) }
+    requires lands { Lands seen (table.prepare_nothing seen.code.marks (formal_type_view seen.code.given is) head (machine_of seen state.old held)) }
+    ensures { Goes seen state.new held result (table.prepare_nothing seen.code.marks (formal_type_view seen.code.given is) head (machine_of seen state.old held)) }
 {
     match is {
-        FormalType::ByName(kind) => { ready(hold_thunk(state, false, Some(kind), head), now.pc) }
-        _ => enter_aside(state, Purpose::Value, None, head, now),
+        FormalType::ByName(kind) => { ready(hold_thunk(state, false, Some(kind), head), pc) }
+        _ => enter_aside(state, Purpose::Value, None, head, pc, held),
     }
 }
 
@@ -313,40 +325,48 @@ pub fn call_through(
     given: &Given,
     site: Place,
     call: u32,
-    now: Registers,
+    pc: u32,
+    held: Held,
 ) -> Next
     ghost seen: { Seen }
     requires stands { Stands seen state.old }
     requires given { IsGiven seen given.now }
-    requires pc { seen.pc ≡ now.pc }
+    requires pc { seen.pc ≡ pc }
     requires here { seen.pc < length seen.code.instructions }
     requires call { call < length seen.code.added.calls }
-    requires clear { IsClear (row_of seen 0 (instr.CallThrough site call) (machine_of seen state.old now.held)) }
-    requires lands { Lands seen (row_of seen 0 (instr.CallThrough site call) (machine_of seen state.old now.held)) }
-    ensures { Goes seen state.new now.held result (row_of seen 0 (instr.CallThrough site call) (machine_of seen state.old now.held)) }
+    requires clear { IsClear (row_of seen 0 (instr.CallThrough site call) (machine_of seen state.old held)) }
+    requires lands { Lands seen (row_of seen 0 (instr.CallThrough site call) (machine_of seen state.old held)) }
+    ensures { Goes seen state.new held result (row_of seen 0 (instr.CallThrough site call) (machine_of seen state.old held)) }
 {
     let procedure = procedure_out(&state.store, given.code.call(call).source);
-    call_procedure(state, given, site, procedure, now)
+    call_procedure(state, given, site, procedure, pc, held)
 }
 
 /// The place of an actual, where its formal is assigned back; otherwise what would do so is stepped over.
-pub fn place_back(state: &mut State, code: &Code, formal: u32, head: u32, now: Registers) -> Next
+pub fn place_back(
+    state: &mut State,
+    code: &Code,
+    formal: u32,
+    head: u32,
+    pc: u32,
+    held: Held,
+) -> Next
     ghost seen: { Seen }
     requires stands { Stands seen state.old }
     requires code { seen.code ≡ code.now }
-    requires pc { seen.pc ≡ now.pc }
+    requires pc { seen.pc ≡ pc }
     requires here { seen.pc < length seen.code.instructions }
-    requires clear { IsClear (row_of seen 0 (instr.PlaceBack formal head) (machine_of seen state.old now.held)) }
-    requires lands { Lands seen (row_of seen 0 (instr.PlaceBack formal head) (machine_of seen state.old now.held)) }
-    ensures { Goes seen state.new now.held result (row_of seen 0 (instr.PlaceBack formal head) (machine_of seen state.old now.held)) }
+    requires clear { IsClear (row_of seen 0 (instr.PlaceBack formal head) (machine_of seen state.old held)) }
+    requires lands { Lands seen (row_of seen 0 (instr.PlaceBack formal head) (machine_of seen state.old held)) }
+    ensures { Goes seen state.new held result (row_of seen 0 (instr.PlaceBack formal head) (machine_of seen state.old held)) }
 {
     let Some(frame) = state.store.newest() else {
         unreachable!()
     };
     match formal_at(code, frame.head, formal) {
         FormalType::Result(_) | FormalType::ValueResult(_) => {
-            enter_aside(state, Purpose::Place, None, head, now)
+            enter_aside(state, Purpose::Place, None, head, pc, held)
         }
-        _ => go_to(now.pc + 3, now.held),
+        _ => go_to(pc + 3, held),
     }
 }

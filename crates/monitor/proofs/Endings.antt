@@ -5,36 +5,37 @@ use Rattle.deck_reader.specs.Batch.{too_large}
 use Rattle.batch_listing.specs.Listing.{listing}
 use Rattle.batch_listing.specs.Writing.{AppendsPrefix}
 use Rattle.batch_listing.proofs.Written.{all_left, prefix_written}
-use Rattle.monitor.specs.declared.stop.Stop.{Stop}
-use Rattle.monitor.specs.declared.stop.Stop.TheVariants as stops
+use Rattle.batch_runner.specs.declared.halt.Halt.{Halt}
+use Rattle.batch_runner.specs.declared.halt.Halt.TheVariants as halts
 use Rattle.monitor.specs.declared.top.Status.{Status}
 use Rattle.monitor.specs.declared.top.Status.TheVariants as statuses
 use Rattle.monitor.specs.Made.{made_summary}
-use Rattle.monitor.specs.Outcome.{IsCutShort, IsMade, IsTooLarge}
+use Rattle.batch_runner.specs.Outcome.{IsCutShort, IsTooLarge}
+use Rattle.monitor.specs.Outcome.{IsMade}
 use Rattle.monitor.specs.Status.{status_after}
 use Rattle.monitor.proofs.Known.{cause_left}
 
 -- where nothing failed, and the bytes aren't too large, memory was wanting or all was done
-pub after_left : {T : Type 0} (r : Result T Stop) (left left' : Option (List ℕ)) (RoseRead RoseWritten : Type 0) (status : Status) → status ≡ status_after r
-    → (r ≡ Err stops.ReadFault → RoseRead) → (r ≡ Err stops.WriteFault → RoseWritten) → (r ≡ Err stops.TooLarge → IsTooLarge left left')
+pub after_left : {T : Type 0} (r : Result T Halt) (left left' : Option (List ℕ)) (RoseRead RoseWritten : Type 0) (status : Status) → status ≡ status_after r
+    → (r ≡ Err halts.ReadFault → RoseRead) → (r ≡ Err halts.WriteFault → RoseWritten) → (r ≡ Err halts.TooLarge → IsTooLarge left left')
     → IfSome left (λ b. too_large b ≡ false → (RoseRead → ⊥) → (RoseWritten → ⊥) → (status ≡ statuses.Done) ⊎ (status ≡ statuses.NoMemory))
 after_left (Ok x) None left' RoseRead RoseWritten status is read write large = tt
 after_left (Ok x) (Some b) left' RoseRead RoseWritten status is read write large = λ fits r w. inl is
-after_left (Err stop) left left' RoseRead RoseWritten status is read write large =
-    cause_left left left' RoseRead RoseWritten stop status is (λ e. read (ap (λ (s : Stop). Err s) e)) (λ e. write (ap (λ (s : Stop). Err s) e)) (λ e. large (ap (λ (s : Stop). Err s) e))
+after_left (Err halt) left left' RoseRead RoseWritten status is read write large =
+    cause_left left left' RoseRead RoseWritten halt status is (λ e. read (ap (λ (h : Halt). Err h) e)) (λ e. write (ap (λ (h : Halt). Err h) e)) (λ e. large (ap (λ (h : Halt). Err h) e))
 
-made_by : {T : Type 0} (r : Result T Stop) (seed jobs : ℕ) (old new : Option (List ℕ)) (status : Status) → status ≡ status_after r
-    → OnOk r (Appends old new (made_summary seed jobs)) → OnErr r (AppendsPrefix old new (made_summary seed jobs)) → (r ≡ Err stops.ReadFault → ⊥) → (r ≡ Err stops.TooLarge → ⊥)
+made_by : {T : Type 0} (r : Result T Halt) (seed jobs : ℕ) (old new : Option (List ℕ)) (status : Status) → status ≡ status_after r
+    → OnOk r (Appends old new (made_summary seed jobs)) → OnErr r (AppendsPrefix old new (made_summary seed jobs)) → (r ≡ Err halts.ReadFault → ⊥) → (r ≡ Err halts.TooLarge → ⊥)
     → IsMade seed jobs old new status
 made_by (Ok x) seed jobs old new status is done cut read large = record { done = λ d. done; cut = λ n. absurd (n is); answers = inl is }
-made_by (Err stops.NoMemory) seed jobs old new status is done cut read large = record { done = λ d. cc; cut = λ n. cut; answers = inr (inl is) }
-made_by (Err stops.WriteFault) seed jobs old new status is done cut read large = record { done = λ d. cc; cut = λ n. cut; answers = inr (inr is) }
-made_by (Err stops.ReadFault) seed jobs old new status is done cut read large = absurd (read refl)
-made_by (Err stops.TooLarge) seed jobs old new status is done cut read large = absurd (large refl)
+made_by (Err halts.NoMemory) seed jobs old new status is done cut read large = record { done = λ d. cc; cut = λ n. cut; answers = inr (inl is) }
+made_by (Err halts.WriteFault) seed jobs old new status is done cut read large = record { done = λ d. cc; cut = λ n. cut; answers = inr (inr is) }
+made_by (Err halts.ReadFault) seed jobs old new status is done cut read large = absurd (read refl)
+made_by (Err halts.TooLarge) seed jobs old new status is done cut read large = absurd (large refl)
 
 -- what was made of these numbers was made of those that the words say
-pub made_after : {T : Type 0} (r : Result T Stop) (seed jobs s j : ℕ) (old new : Option (List ℕ)) (status : Status) → (seed ≡ s) × (jobs ≡ j) → status ≡ status_after r
-    → OnOk r (Appends old new (made_summary seed jobs)) → OnErr r (AppendsPrefix old new (made_summary seed jobs)) → (r ≡ Err stops.ReadFault → ⊥) → (r ≡ Err stops.TooLarge → ⊥)
+pub made_after : {T : Type 0} (r : Result T Halt) (seed jobs s j : ℕ) (old new : Option (List ℕ)) (status : Status) → (seed ≡ s) × (jobs ≡ j) → status ≡ status_after r
+    → OnOk r (Appends old new (made_summary seed jobs)) → OnErr r (AppendsPrefix old new (made_summary seed jobs)) → (r ≡ Err halts.ReadFault → ⊥) → (r ≡ Err halts.TooLarge → ⊥)
     → IsMade s j old new status
 made_after r seed jobs s j old new status e is done cut read large =
     subst (λ (n : ℕ). IsMade s n old new status) e.1 (subst (λ (n : ℕ). IsMade n jobs old new status) e.0 (made_by r seed jobs old new status is done cut read large))

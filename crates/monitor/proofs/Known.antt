@@ -1,15 +1,13 @@
 -- What is known of the bytes read and written, and of the cause of an answer.
-use Rattle.std.proofs.Common.{ℕ, [], inl, append-nil, ◌≡◌, ◌⊎◌, List, ◌++◌, Option, Some, None, Result, Ok, Err, true, false, refl, ap, ◌∙◌, inr, OnOk, OnErr, IfSome, IsErrAnd, IsErrOf}
+use Rattle.std.proofs.Common.{ℕ, [], inl, append-nil, ◌≡◌, ◌⊎◌, List, ◌++◌, Option, Some, None, Result, Ok, Err, true, false, refl, ap, ◌∙◌, inr, OnOk, OnErr, IfSome}
 use Rattle.deck_reader.specs.Batch.{passes, too_large}
 use Rattle.deck_reader.proofs.Limits.{passes_more}
-use Rattle.monitor.specs.declared.stop.Stop.{Stop}
-use Rattle.monitor.specs.declared.stop.Stop.TheVariants as stops
+use Rattle.batch_runner.specs.declared.halt.Halt.{Halt}
+use Rattle.batch_runner.specs.declared.halt.Halt.TheVariants as halts
 use Rattle.monitor.specs.declared.top.Status.{Status}
 use Rattle.monitor.specs.declared.top.Status.TheVariants as statuses
-use Rattle.monitor.specs.Outcome.{IsTooLarge}
-use Rattle.monitor.specs.Status.{stop_of, status_of}
-use Rattle.deck_reader.specs.declared.reader.FeedError.{FeedError}
-use Rattle.deck_reader.specs.declared.reader.FeedError.TheVariants as feeds
+use Rattle.batch_runner.specs.Outcome.{IsTooLarge}
+use Rattle.monitor.specs.Status.{status_of}
 
 -- what holds at an error
 pub at_err : {T E P : Type 0} (r : Result T E) → P → OnErr r P
@@ -25,27 +23,21 @@ pub if_err : {T E P Q : Type 0} (r : Result T E) → OnErr r P → (P → Q) →
 if_err (Ok x) holds then = tt
 if_err (Err e) holds then = then holds
 
--- a stop for too large a batch comes from a reader that says so
-pub large_error : {T : Type 0} (r : Result T Stop) (error : FeedError) → IsErrAnd r (λ s. s ≡ stop_of error) → IsErrOf r stops.TooLarge → error ≡ feeds.TooLarge
-large_error (Ok x) error h is = absurd h
-large_error (Err s) feeds.TooLarge h is = refl
-large_error (Err s) feeds.NoMemory h is = cc
-
 -- the whole source is too large where a part of it was
 whole_too_large : (input rest : List ℕ) → (passes input ≡ true) ⊎ ((rest ≡ []) × (too_large input ≡ true)) → too_large (input ++ rest) ≡ true
 whole_too_large input rest (inl h) = passes_more input rest h
 whole_too_large input rest (inr h) = ap (λ (xs : List ℕ). too_large (input ++ xs)) h.0 ∙ ap too_large (append-nil input) ∙ h.1
 
 -- where nothing failed, and the bytes aren't too large, memory was wanting
-pub cause_left : (left left' : Option (List ℕ)) (RoseRead RoseWritten : Type 0) (stop : Stop) (status : Status) → status ≡ status_of stop
-    → (stop ≡ stops.ReadFault → RoseRead) → (stop ≡ stops.WriteFault → RoseWritten) → (stop ≡ stops.TooLarge → IsTooLarge left left')
+pub cause_left : (left left' : Option (List ℕ)) (RoseRead RoseWritten : Type 0) (halt : Halt) (status : Status) → status ≡ status_of halt
+    → (halt ≡ halts.ReadFault → RoseRead) → (halt ≡ halts.WriteFault → RoseWritten) → (halt ≡ halts.TooLarge → IsTooLarge left left')
     → IfSome left (λ b. too_large b ≡ false → (RoseRead → ⊥) → (RoseWritten → ⊥) → (status ≡ statuses.Done) ⊎ (status ≡ statuses.NoMemory))
-cause_left None left' RoseRead RoseWritten stop status is read write large = tt
-cause_left (Some b) left' RoseRead RoseWritten stops.NoMemory status is read write large = λ fits r w. inr is
-cause_left (Some b) left' RoseRead RoseWritten stops.ReadFault status is read write large = λ fits r w. absurd (r (read refl))
-cause_left (Some b) left' RoseRead RoseWritten stops.WriteFault status is read write large = λ fits r w. absurd (w (write refl))
-cause_left (Some b) None RoseRead RoseWritten stops.TooLarge status is read write large = λ fits r w. absurd (large refl).read
-cause_left (Some b) (Some ys) RoseRead RoseWritten stops.TooLarge status is read write large = λ fits r w.
+cause_left None left' RoseRead RoseWritten halt status is read write large = tt
+cause_left (Some b) left' RoseRead RoseWritten halts.NoMemory status is read write large = λ fits r w. inr is
+cause_left (Some b) left' RoseRead RoseWritten halts.ReadFault status is read write large = λ fits r w. absurd (r (read refl))
+cause_left (Some b) left' RoseRead RoseWritten halts.WriteFault status is read write large = λ fits r w. absurd (w (write refl))
+cause_left (Some b) None RoseRead RoseWritten halts.TooLarge status is read write large = λ fits r w. absurd (large refl).read
+cause_left (Some b) (Some ys) RoseRead RoseWritten halts.TooLarge status is read write large = λ fits r w.
     let cause = large refl in
     let past : too_large b ≡ true = ap too_large cause.read ∙ whole_too_large cause.input ys cause.large in
     cc

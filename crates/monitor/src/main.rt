@@ -1,9 +1,11 @@
 // Reads a batch of cards from standard input, runs its jobs, and writes the listing to standard output.
 #![tactic(auto)]
 
+#[cfg(test)]
+mod cut_tests;
+#[cfg(test)]
+mod fault_tests;
 mod made;
-mod reading;
-mod stop;
 #[cfg(test)]
 mod tests;
 mod top;

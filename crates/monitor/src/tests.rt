@@ -9,18 +9,18 @@ use std::thread::Threads;
 #[derive(Clone, Copy)]
 pub(crate) struct Outside {
     /// The most bytes that a read or a write handles.
-    piece: usize,
+    pub(crate) piece: usize,
     /// The number of the read that fails.
-    failing_read: Option<u32>,
+    pub(crate) failing_read: Option<u32>,
     /// The number of the write that fails.
-    failing_write: Option<u32>,
+    pub(crate) failing_write: Option<u32>,
     /// How many bytes the source hands out.
-    source_stop: Option<u64>,
+    pub(crate) source_stop: Option<u64>,
     /// How many bytes the sink takes.
-    sink_stop: u32,
+    pub(crate) sink_stop: u32,
 }
 
-const AMPLE: Outside = Outside {
+pub(crate) const AMPLE: Outside = Outside {
     piece: 7,
     failing_read: None,
     failing_write: None,
@@ -37,7 +37,7 @@ fn call_numbers(alloc: Global, number: Option<u32>) -> Result<Vec<u32>, AllocErr
 }
 
 /// What a run answers and writes.
-fn run<R: Threads + Wait + Sync>(
+pub(crate) fn run<R: Threads + Wait + Sync>(
     rt: &R,
     alloc: Global,
     words: &[String],
@@ -48,7 +48,7 @@ fn run<R: Threads + Wait + Sync>(
 }
 
 /// What a run with one worker answers and writes.
-fn run_alone<R: Threads + Wait + Sync>(
+pub(crate) fn run_alone<R: Threads + Wait + Sync>(
     rt: &R,
     alloc: Global,
     input: &[u8],
@@ -336,129 +336,6 @@ fn a_batch_has_its_listing(rt: HostRuntime) -> Result<(), Fail> {
     Ok(())
 }
 
-/// The first bytes, so many as there are.
-fn first(bytes: &[u8], count: usize) -> &[u8] {
-    &bytes[..count.min(bytes.len())]
-}
-
-/// The listing of a batch, made with no fault.
-fn listing_of<R: Threads + Wait + Sync>(
-    rt: &R,
-    alloc: Global,
-    input: &[u8],
-) -> Result<Vec<u8>, AllocError> {
-    let (_, written) = run_alone(rt, alloc, input, &AMPLE)?;
-    Ok(written)
-}
-
-/// The sizes of the pieces in which faults are tried.
-const PIECES: [usize; 2] = [5, 64];
-
-#[test]
-fn a_stopped_source_leaves_a_prefix_of_the_listing_of_what_it_gave(
-    rt: HostRuntime,
-) -> Result<(), Fail> {
-    for count in 0..=SUM.len() {
-        let given = listing_of(&rt, rt.alloc(), first(SUM, count))?;
-        for piece in PIECES {
-            let outside = Outside {
-                piece,
-                source_stop: Some(count as u64),
-                ..AMPLE
-            };
-            let (status, written) = run_alone(&rt, rt.alloc(), SUM, &outside)?;
-            assert_eq!(rt; status, Status::ReadFault, "{count}, by {piece}");
-            assert!(rt;
-                given.starts_with(written.as_slice()),
-                "{count}, by {piece}"
-            );
-        }
-    }
-    Ok(())
-}
-
-#[test]
-fn a_stopped_sink_has_just_what_it_took(rt: HostRuntime) -> Result<(), Fail> {
-    for piece in PIECES {
-        for ninth in 0..100_u32 {
-            let count = 9 * ninth;
-            let outside = Outside {
-                piece,
-                sink_stop: count,
-                ..AMPLE
-            };
-            let (status, written) = run_alone(&rt, rt.alloc(), SUM, &outside)?;
-            let taken = first(SUM_LISTING, count as usize);
-            assert_eq!(rt; written.as_slice(), taken, "{count}, by {piece}");
-            if taken.len() == SUM_LISTING.len() {
-                assert_eq!(rt; status, Status::Done, "{count}, by {piece}");
-                break;
-            }
-            assert_eq!(rt; status, Status::WriteFault, "{count}, by {piece}");
-        }
-    }
-    Ok(())
-}
-
-#[test]
-fn each_read_may_fail(rt: HostRuntime) -> Result<(), Fail> {
-    for piece in PIECES {
-        // One read more finds the end.
-        let reads = SUM.chunks(piece).count() + 1;
-        for before in 0..1_000_u32 {
-            let outside = Outside {
-                piece,
-                failing_read: Some(before + 1),
-                ..AMPLE
-            };
-            let (status, written) = run_alone(&rt, rt.alloc(), SUM, &outside)?;
-            if before as usize >= reads {
-                assert_eq!(rt; status, Status::Done, "{before}, by {piece}");
-                break;
-            }
-            assert_eq!(rt; status, Status::ReadFault, "{before}, by {piece}");
-            let given = listing_of(&rt, rt.alloc(), first(SUM, before as usize * piece))?;
-            assert!(rt;
-                given.starts_with(written.as_slice()),
-                "{before}, by {piece}"
-            );
-        }
-    }
-    Ok(())
-}
-
-#[test]
-fn each_write_may_fail(rt: HostRuntime) -> Result<(), Fail> {
-    for piece in PIECES {
-        let mut longest = 0;
-        for before in 0..1_000_u32 {
-            let outside = Outside {
-                piece,
-                failing_write: Some(before + 1),
-                ..AMPLE
-            };
-            let (status, written) = run_alone(&rt, rt.alloc(), SUM, &outside)?;
-            assert!(rt;
-                SUM_LISTING.starts_with(written.as_slice()),
-                "{before}, by {piece}"
-            );
-            if status == Status::Done {
-                assert_eq!(rt; written.len(), SUM_LISTING.len(), "{before}, by {piece}");
-                break;
-            }
-            assert_eq!(rt; status, Status::WriteFault, "{before}, by {piece}");
-            assert!(rt;
-                before == 0 || written.len() > longest,
-                "{before}, by {piece}"
-            );
-            longest = written.len();
-        }
-        let left = SUM_LISTING.len().saturating_sub(longest);
-        assert!(rt; left <= piece, "by {piece}");
-    }
-    Ok(())
-}
-
 /// Lists of words, parted by blanks, and the status that each ends with on a batch that fits.
 const WORDS: &str = "--help;--workers 0;--queue 3 --queue 3;--make 7;--jobs 1";
 
@@ -523,11 +400,11 @@ fn the_most_jobs_are_read_and_one_more_are_too_many(rt: HostRuntime) -> Result<(
     for _ in 0..2_000_u32 {
         heads.extend_from_slice(b"%JOB A,ADA\n")?;
     }
-    let (status, _) = run_alone(&rt, rt.alloc(), heads.as_slice(), &WIDE)?;
+    let (status, listing) = run_alone(&rt, rt.alloc(), heads.as_slice(), &WIDE)?;
     assert_eq!(rt; status, Status::Done);
     heads.extend_from_slice(b"%job")?;
     let (status, written) = run_alone(&rt, rt.alloc(), heads.as_slice(), &WIDE)?;
     assert_eq!(rt; status, Status::TooLarge);
-    assert_eq!(rt; written.len(), 0);
+    assert!(rt; listing.starts_with(written.as_slice()));
     Ok(())
 }

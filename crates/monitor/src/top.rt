@@ -1,15 +1,14 @@
-ghost use Rattle.std.specs.Prelude.{◌≡◌, ◌⊎◌, ℕ, IfSome, OnOk, OnErr, IsErrOf, false, map, string_bytes, true};
+ghost use Rattle.std.specs.Prelude.{◌≡◌, ◌⊎◌, ℕ, IfSome, false, map, string_bytes, true};
 ghost use Rattle.batch_io.specs.Causes.{Rose};
 ghost use Rattle.deck_reader.specs.Batch.{too_large};
 ghost use Rattle.monitor.specs.Orders.{SaysMake, SaysNothing, SaysRun};
-ghost use Rattle.monitor.specs.Outcome.{IsDone, IsCutShort, IsMade, IsTooLarge};
+ghost use Rattle.batch_runner.specs.Outcome.{IsDone, IsCutShort, IsTooLarge};
+ghost use Rattle.monitor.specs.Outcome.{IsMade};
 ghost use Rattle.monitor.specs.Status.{number_of, status_after};
 
 use crate::made::run_made;
-use crate::reading::read_all;
-use crate::stop::Stop;
 use batch_io::{Gate, Sink, Source};
-use batch_runner::{Staff, write_listing};
+use batch_runner::{Halt, Staff, write_listing};
 use command_words::{Order, WordsError, read_words};
 use std::alloc::Global;
 use std::sync::Wait;
@@ -48,18 +47,18 @@ impl Status {
     }
 }
 
-impl From<Stop> for Status {
+impl From<Halt> for Status {
     ghost use Rattle.std.specs.Prelude.{◌≡◌};
     ghost use Rattle.monitor.specs.Status.{status_of};
 
-    ghost from_gives = { λ stop status. status ≡ status_of stop };
+    ghost from_gives = { λ halt status. status ≡ status_of halt };
 
-    fn from(stop: Stop) -> Status {
-        match stop {
-            Stop::NoMemory => Status::NoMemory,
-            Stop::ReadFault => Status::ReadFault,
-            Stop::WriteFault => Status::WriteFault,
-            Stop::TooLarge => Status::TooLarge,
+    fn from(halt: Halt) -> Status {
+        match halt {
+            Halt::NoMemory => Status::NoMemory,
+            Halt::ReadFault => Status::ReadFault,
+            Halt::WriteFault => Status::WriteFault,
+            Halt::TooLarge => Status::TooLarge,
         }
     }
 }
@@ -112,7 +111,7 @@ pub fn run_monitor<R: Threads + Wait + Sync, S: Source, K: Sink, G: Gate>(
     match read_words(alloc, words) {
         Ok(Order::Run { workers, queue }) => {
             let staff = Staff::new(workers, queue);
-            status_after(run_batch(rt, alloc, src, sink, staff, gate))
+            status_after(write_listing(rt, alloc, src, sink, staff, gate))
         }
         Ok(
             Order::Make {
@@ -131,34 +130,11 @@ pub fn run_monitor<R: Threads + Wait + Sync, S: Source, K: Sink, G: Gate>(
 }
 
 /// How a run ended that ended so.
-fn status_after(ended: Result<(), Stop>) -> Status
+fn status_after(ended: Result<(), Halt>) -> Status
     ensures { result ≡ status_after ended }
 {
     match ended {
         Ok(()) => Status::Done,
-        Err(stop) => Status::from(stop),
+        Err(halt) => Status::from(halt),
     }
-}
-
-/// Reads a batch, runs its jobs and writes its listing.
-fn run_batch<R: Threads + Wait + Sync, S: Source, K: Sink, G: Gate>(
-    rt: &R,
-    alloc: Global,
-    src: &mut S,
-    sink: &mut K,
-    staff: Staff,
-    gate: &G,
-) -> Result<(), Stop>
-    ensures done { OnOk result (IsDone (S.left src.old) (S.left src.new) (K.written sink.old) (K.written sink.new)) }
-    ensures cut { OnErr result
-        (IsCutShort (S.left src.old) (S.left src.new) (K.written sink.old) (K.written sink.new)) }
-    ensures kept { OnOk result ((S.faults src.new ≡ S.faults src.old) × (K.faults sink.new ≡ K.faults sink.old)) }
-    ensures read { IsErrOf result Stop.ReadFault → Rose (S.faults src.old) (S.faults src.new) }
-    ensures write { IsErrOf result Stop.WriteFault → Rose (K.faults sink.old) (K.faults sink.new) }
-    ensures large { IsErrOf result Stop.TooLarge → IsTooLarge (S.left src.old) (S.left src.new) }
-{
-    let reader = read_all(alloc, src)?;
-    let batch = reader.finish()?;
-    write_listing(rt, alloc, sink, batch, staff, gate)?;
-    Ok(())
 }

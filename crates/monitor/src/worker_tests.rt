@@ -1,6 +1,8 @@
+ghost use Rattle.std.specs.Prelude.{◌≤◌, length};
+
 use crate::tests::{WIDE, run_past, words_of};
-use crate::top::Status;
-use batch_io::{Gate, OpenGate};
+use crate::top::{Status, run_monitor};
+use batch_io::{Gate, MemSink, OpenGate, ReadFailed, Source};
 use std::alloc::{AllocError, Global};
 use std::sync::atomic::{AtomicBool, AtomicU32, Ordering};
 use std::test::Fail;
@@ -149,7 +151,7 @@ fn each_job_is_run_by_a_worker(rt: HostRuntime) -> Result<(), Fail> {
 }
 
 /// While the long job runs, it is certain that the big one will not be covered, but not by which balance.
-const TIGHT: &[u8] = b"%ACCOUNT ADA 300
+pub(crate) const TIGHT: &[u8] = b"%ACCOUNT ADA 300
 %JOB LONG,ADA,LINES=1
 BEGIN INTEGER I; I := 0;
 WHILE I < 1000 DO I := I + 1;
@@ -160,7 +162,7 @@ BEGIN END.
 BEGIN WRITE(3) END.
 ";
 
-const TIGHT_LISTING: &[u8] = b"ALGOL W BATCH
+pub(crate) const TIGHT_LISTING: &[u8] = b"ALGOL W BATCH
 
 JOB 1 LONG ADA
    1        1  BEGIN INTEGER I; I := 0;
@@ -228,5 +230,107 @@ fn a_made_batch_has_one_summary(rt: HostRuntime) -> Result<(), Fail> {
             assert_eq!(rt; written.as_slice(), first.as_slice(), "{list}");
         }
     }
+    Ok(())
+}
+
+/// One job, which its end card ends.
+const ONE: &[u8] = b"%ACCOUNT ADA 1000
+%JOB A,ADA
+BEGIN WRITE(1) END.
+%EOJ
+";
+
+/// A gate that knows when a worker has ended the first job.
+#[derive(Drop)]
+struct FirstEnded {
+    ended: AtomicBool,
+}
+
+impl Gate for FirstEnded {
+    fn enter(&self, _job: u32) {}
+
+    fn leave(&self, job: u32) {
+        if job == 1 {
+            self.ended.store(true, Ordering::SeqCst);
+        }
+    }
+
+    fn audited(&self, _job: u32) {}
+}
+
+/// A source of one job, then of single line feeds until a worker has ended it. It gives up after a while.
+#[derive(Drop)]
+struct LineFeeds<'g> {
+    gate: &'g FirstEnded,
+    begun: bool,
+    /// How many line feeds it may still hand out.
+    left: u32,
+}
+
+impl<'g> LineFeeds<'g> {
+    /// The next bytes.
+    fn next(&mut self) -> &'static [u8] {
+        if !self.begun {
+            self.begun = true;
+            return ONE;
+        }
+        if self.left == 0 || self.gate.ended.load(Ordering::SeqCst) {
+            return b"";
+        }
+        self.left -= 1;
+        yield_now();
+        b"\n"
+    }
+}
+
+/// Puts bytes into the front of a buffer, as many as it has room for, and says how many.
+fn put(buf: &mut [u8], bytes: &[u8]) -> usize
+    ensures { result ≤ length buf.new }
+{
+    let count = bytes.len().min(buf.len());
+    buf[..count].copy_from_slice(&bytes[..count]);
+    count
+}
+
+impl<'g> Source for LineFeeds<'g> {
+    ghost use Rattle.std.specs.Prelude.{None};
+
+    ghost left = { λ _. None };
+
+    ghost faults = { λ _. 0 };
+
+    fn read(&mut self, buf: &mut [u8]) -> Result<usize, ReadFailed> {
+        let bytes = self.next();
+        Ok(put(buf, bytes))
+    }
+}
+
+/// The jobs of a batch run while it is read.
+#[test]
+fn reads_while_running(rt: HostRuntime) -> Result<(), Fail> {
+    let gate = FirstEnded {
+        ended: AtomicBool::new(false),
+    };
+    let mut source = LineFeeds {
+        gate: &gate,
+        begun: false,
+        left: 4_000_000,
+    };
+    let mut sink = MemSink::new(rt.alloc(), 65_536, Vec::new(rt.alloc()), 10_000)?;
+    let words = words_of(rt.alloc(), "--workers 2")?;
+    let status = run_monitor(
+        &rt,
+        rt.alloc(),
+        words.as_slice(),
+        &mut source,
+        &mut sink,
+        &gate,
+    );
+    assert_eq!(rt; status, Status::Done);
+    assert!(rt;
+        source.left > 0,
+        "no worker ended the job while the batch was read"
+    );
+    assert!(rt; sink.bytes().ends_with(b"STRAY CARDS 0\n"));
     Ok(())
 }

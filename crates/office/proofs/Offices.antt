@@ -23,7 +23,7 @@ use Rattle.batch_core.specs.Events.{AlwaysCovers, IsThere, NeverCovers, MayArriv
 use Rattle.batch_core.proofs.Bounds.{undecided}
 use Rattle.batch_core.proofs.Steps.{is_undecided}
 use Rattle.office.specs.Arrivals.{IsBelow}
-use Rattle.office.specs.Claims.{claim_of_job}
+use Rattle.batch_core.specs.Claims.{claim_of_job}
 use Rattle.office.specs.Kept.{Kept}
 use Rattle.office.specs.OfficeView.{OfficeView, next_ticket, with_accepted, with_ended, with_register}
 use Rattle.office.specs.Prospects.{IsNext, high_of, low_of}

@@ -20,7 +20,7 @@ use Rattle.batch_core.specs.Core.{Core, no_job, job_at, held}
 use Rattle.batch_core.specs.Events.{IsOver, IsThere, MayArrive, MayAccept, MayRefuse, MayEnd, MayPrint, Allowed, staged}
 use Rattle.batch_core.specs.Kept.{AllOver, IsDecided, Kept}
 use Rattle.batch_core.proofs.Steps.{is_undecided, outstanding}
-use Rattle.office.specs.Claims.{claim_of_job}
+use Rattle.batch_core.specs.Claims.{claim_of_job}
 use Rattle.office.specs.Register.{RegisterView, accepted, arrived, finished, printed, refused}
 use Rattle.office.specs.RegisterStands.{RegisterStands}
 use Rattle.office.specs.Registered.{Registered}

@@ -28,7 +28,7 @@ use Rattle.batch_core.proofs.Journals.{legal_more, replay_more}
 use Rattle.batch_core.proofs.Lists.{one_more}
 use Rattle.batch_core.proofs.Stages.{all_staged}
 use Rattle.batch_core.proofs.Steps.{is_undecided, keeps_all, keeps_start, outstanding}
-use Rattle.office.specs.Claims.{claim_of_job}
+use Rattle.batch_core.specs.Claims.{claim_of_job}
 use Rattle.office.specs.Register.{RegisterView, accepted, arrived, finished, printed, refused}
 use Rattle.office.specs.RegisterStands.{IsCharged, IsEnded, IsKept, IsResultOf, RegisterStands}
 use Rattle.office.specs.Sums.{reserved_in}

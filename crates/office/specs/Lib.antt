@@ -1,4 +1,3 @@
-pub mod Claims
 pub mod Sums
 pub mod Tickets
 pub mod Register

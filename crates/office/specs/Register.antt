@@ -7,7 +7,7 @@ use Rattle.batch_core.specs.declared.event.Event.{Event}
 use Rattle.batch_core.specs.declared.event.Event.TheVariants.{Arrive, Accept, Refuse, End, Print}
 use Rattle.batch_core.specs.Core.{Core, start, job_at}
 use Rattle.batch_core.specs.Events.{step}
-use Rattle.office.specs.Claims.{claim_of_job}
+use Rattle.batch_core.specs.Claims.{claim_of_job}
 
 -- how far the batch is and by which events; its jobs, and the results of those that have ended, until they are printed; and what is reserved for the outstanding ones
 pub record RegisterView : Type 0 where

@@ -10,7 +10,7 @@ use Rattle.batch_core.specs.declared.job.Stage.TheVariants.{Undecided, Refused, 
 use Rattle.batch_core.specs.Core.{start, job_at}
 use Rattle.batch_core.specs.Events.{Legal, replay}
 use Rattle.batch_core.specs.Laws.{IsAccepted}
-use Rattle.office.specs.Claims.{claim_of_job}
+use Rattle.batch_core.specs.Claims.{claim_of_job}
 use Rattle.office.specs.Sums.{reserved_in}
 use Rattle.office.specs.Register.{RegisterView}
 

@@ -3,7 +3,7 @@ ghost use Rattle.deck_reader.specs.JobView.{JobView};
 ghost use Rattle.algolw_meaning.specs.Running.{job_result};
 ghost use Rattle.batch_core.specs.Events.{IsThere, MayAccept, MayPrint, MayRefuse};
 ghost use Rattle.batch_core.specs.Kept.{AllOver};
-ghost use Rattle.office.specs.Claims.{claim_of_job};
+ghost use Rattle.batch_core.specs.Claims.{claim_of_job};
 ghost use Rattle.office.specs.Prospects.{IsNext, Sees};
 ghost use Rattle.office.specs.Register.{accepted, arrived, blank, finished, next_reserve, printed, refused};
 ghost use Rattle.office.specs.Standings.{Brings, IsRunning, brought_by, standing_of};

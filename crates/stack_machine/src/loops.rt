@@ -11,7 +11,7 @@ ghost use Rattle.machine_calls.specs.Rows.{Goes};
 ghost use Rattle.stack_machine.specs.Counting as counting;
 
 use cell_store::{Entry, Store, Word};
-use machine_calls::{Given, Next, Registers, enter, go_to};
+use machine_calls::{Given, Next, enter, go_to};
 use machine_rows::{Halt, Held, State, entry_out, start_out, tick};
 use stack_code::Code;
 use value_ops::{Fault, Place};
@@ -26,22 +26,22 @@ struct Counting {
 
 /// A turn of WHILE more where what is held is true: a step, and it goes back. L1.
 #[inline(always)]
-pub(crate) fn again(state: &mut State, given: &Given, target: u32, now: Registers) -> Next
+pub(crate) fn again(state: &mut State, given: &Given, target: u32, pc: u32, held: Held) -> Next
     ghost seen: { Seen }
     requires stands { Stands seen state.old }
     requires given { IsGiven seen given.now }
-    requires pc { seen.pc ≡ now.pc }
+    requires pc { seen.pc ≡ pc }
     requires here { seen.pc < length seen.code.instructions }
-    requires clear { IsClear (row_of seen 0 (instr.Again target) (machine_of seen state.old now.held)) }
-    ensures { Goes seen state.new now.held result (row_of seen 0 (instr.Again target) (machine_of seen state.old now.held)) }
+    requires clear { IsClear (row_of seen 0 (instr.Again target) (machine_of seen state.old held)) }
+    ensures { Goes seen state.new held result (row_of seen 0 (instr.Again target) (machine_of seen state.old held)) }
 {
-    if machine_rows::truth(now.held) {
+    if machine_rows::truth(held) {
         match tick(state, given.steps) {
-            Ok(()) => go_to(target, now.held),
+            Ok(()) => go_to(target, held),
             Err(halt) => Next::Halted(halt),
         }
     } else {
-        go_to(now.pc + 1, Held::NOTHING)
+        go_to(pc + 1, Held::NOTHING)
     }
 }
 
@@ -119,21 +119,21 @@ fn leave_loop(state: &mut State, exit: u32) -> Next
 }
 
 /// The first turn of FOR, or it goes on at the exit. F14, L1.
-pub(crate) fn first_turn(state: &mut State, given: &Given, exit: u32, now: Registers) -> Next
+pub(crate) fn first_turn(state: &mut State, given: &Given, exit: u32, pc: u32, held: Held) -> Next
     ghost seen: { Seen }
     requires stands { Stands seen state.old }
     requires given { IsGiven seen given.now }
-    requires pc { seen.pc ≡ now.pc }
+    requires pc { seen.pc ≡ pc }
     requires here { seen.pc < length seen.code.instructions }
-    requires clear { IsClear (row_of seen 0 (instr.FirstTurn exit) (machine_of seen state.old now.held)) }
-    ensures { Goes seen state.new now.held result (row_of seen 0 (instr.FirstTurn exit) (machine_of seen state.old now.held)) }
+    requires clear { IsClear (row_of seen 0 (instr.FirstTurn exit) (machine_of seen state.old held)) }
+    ensures { Goes seen state.new held result (row_of seen 0 (instr.FirstTurn exit) (machine_of seen state.old held)) }
 {
     let counting = counts_with(&state.store);
     if counting.step == 0 {
         return Next::Halted(Halt::Fault(Fault::StepZero));
     }
     if has_turn(i64::from(counting.control), counting) {
-        take_turn(state, given, counting.control, now.pc + 1, now.held)
+        take_turn(state, given, counting.control, pc + 1, held)
     } else {
         leave_loop(state, exit)
     }
@@ -146,23 +146,24 @@ pub(crate) fn next_turn(
     given: &Given,
     target: u32,
     position: u32,
-    now: Registers,
+    pc: u32,
+    held: Held,
 ) -> Next
     ghost seen: { Seen }
     requires stands { Stands seen state.old }
     requires given { IsGiven seen given.now }
-    requires pc { seen.pc ≡ now.pc }
+    requires pc { seen.pc ≡ pc }
     requires here { seen.pc < length seen.code.instructions }
-    requires clear { IsClear (row_of seen 0 (instr.NextTurn target position) (machine_of seen state.old now.held)) }
-    ensures { Goes seen state.new now.held result (row_of seen 0 (instr.NextTurn target position) (machine_of seen state.old now.held)) }
+    requires clear { IsClear (row_of seen 0 (instr.NextTurn target position) (machine_of seen state.old held)) }
+    ensures { Goes seen state.new held result (row_of seen 0 (instr.NextTurn target position) (machine_of seen state.old held)) }
 {
     cut_to_position(state, position);
     let counting = counts_with(&state.store);
     let control = i64::from(counting.control) + i64::from(counting.step);
     if has_turn(control, counting) {
-        take_turn(state, given, control as i32, target, now.held)
+        take_turn(state, given, control as i32, target, held)
     } else {
-        leave_loop(state, now.pc + 1)
+        leave_loop(state, pc + 1)
     }
 }
 
@@ -229,18 +230,19 @@ pub(crate) fn list_turn(
     at: u32,
     target: u32,
     name: u32,
-    now: Registers,
+    pc: u32,
+    held: Held,
 ) -> Next
     ghost seen: { Seen }
     requires stands { Stands seen state.old }
     requires given { IsGiven seen given.now }
-    requires pc { seen.pc ≡ now.pc }
+    requires pc { seen.pc ≡ pc }
     requires here { seen.pc < length seen.code.instructions }
     requires name { name < length seen.code.given.names }
-    requires clear { IsClear (row_of seen at (instr.ListTurn target name) (machine_of seen state.old now.held)) }
-    ensures { Goes seen state.new now.held result (row_of seen at (instr.ListTurn target name) (machine_of seen state.old now.held)) }
+    requires clear { IsClear (row_of seen at (instr.ListTurn target name) (machine_of seen state.old held)) }
+    ensures { Goes seen state.new held result (row_of seen at (instr.ListTurn target name) (machine_of seen state.old held)) }
 {
-    let Held::Word(word) = now.held else {
+    let Held::Word(word) = held else {
         unreachable!()
     };
     if let Err(limit) = state.store.push(word) {
@@ -249,8 +251,8 @@ pub(crate) fn list_turn(
     if let Err(halt) = tick(state, given.steps) {
         return Next::Halted(halt);
     }
-    enter_turn(state, statement_place(given.code, at), now.pc + 1, name, 1);
-    go_to(target, now.held)
+    enter_turn(state, statement_place(given.code, at), pc + 1, name, 1);
+    go_to(target, held)
 }
 
 /// The end of such a turn: its entries and its cell are given back, and it goes on where its mark says.

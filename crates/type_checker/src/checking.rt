@@ -28,11 +28,11 @@ pub enum Checked {
 }
 
 /// Checks the names and types of a program.
-pub fn check(alloc: Global, phrase: &Phrase) -> Result<Checked, AllocError>
-    ensures { IfOk result (λ checked. Says (tree phrase.now) checked) }
+pub fn check(alloc: Global, phrase: Phrase) -> Result<Checked, AllocError>
+    ensures { IfOk result (λ checked. Says (tree phrase) checked) }
 {
     let arena = Bump::new(alloc);
-    let found = check_program(alloc, &arena, phrase)?;
+    let found = check_program(alloc, &arena, &phrase)?;
     if found.faults.is_empty() {
         let program = good_program(alloc, &arena, phrase, found.draft)?;
         return Ok(Checked::Good(program));
@@ -41,18 +41,20 @@ pub fn check(alloc: Global, phrase: &Phrase) -> Result<Checked, AllocError>
     Ok(Checked::Bad(given))
 }
 
-/// The program that a phrase without faults is.
+/// The program that a phrase without faults is. The phrase is gone before the program is made, so that a long deck takes less
+/// memory.
 fn good_program<'a>(
     alloc: Global,
     arena: &'a Bump,
-    phrase: &Phrase,
+    phrase: Phrase,
     draft: &Draft<'a>,
 ) -> Result<Program, AllocError>
-    requires faults { program_faults (tree phrase.now) ≡ [] }
-    requires draft { draft_view draft.now ≡ (typed_program (tree phrase.now)).node }
-    ensures { IfOk result (λ program. HoldsProgram program (program_of (tree phrase.now))) }
+    requires faults { program_faults (tree phrase) ≡ [] }
+    requires draft { draft_view draft.now ≡ (typed_program (tree phrase)).node }
+    ensures { IfOk result (λ program. HoldsProgram program (program_of (tree phrase))) }
 {
-    let scopes = resolve(alloc, arena, phrase)?;
+    let scopes = resolve(alloc, arena, &phrase)?;
+    drop(phrase);
     number_program(alloc, draft, scopes.names, &scopes.classes)
 }
 

@@ -3,9 +3,9 @@ ghost use Rattle.std.specs.Prelude.{◌≡◌, ◌≤◌, IfOk, ⊤, length};
 use crate::{Caller, Turn, WorkEnd, gather, run_pool, work};
 use account_book::Book;
 use batch_io::OpenGate;
-use deck_reader::{Batch, FeedError, Reader};
+use deck_reader::{Batch, FeedError, Job, Reader};
 use job_queue::{FreshQueue, JobQueue, QueueBrand};
-use job_runner::Desk;
+use job_runner::{Brought, Desk, Ended, run_job};
 use office::{Admitted, Office, Standing};
 use std::alloc::{AllocError, Global};
 use std::marker::Brand;
@@ -163,5 +163,118 @@ fn what_workers_leave_is_gathered(rt: HostRuntime) -> Result<(), Fail> {
     let mut desk = [Desk::new(alloc)?];
     let none_begun = of_two(&rt, alloc, &mut desk, Decides { stops: true })?;
     assert_eq!(rt; none_begun, (604, 0, 604));
+    Ok(())
+}
+
+/// Two jobs, of which the second waits for the end of the first: they reserve 100 and 120, and cost 10 and 7.
+const WAITING: &[u8] = b"%ACCOUNT ADA 150
+%JOB ONE,ADA,STEPS=500,LINES=45
+BEGIN
+WRITE(\"A\");
+WRITE(\"B\")
+END.
+%JOB TWO,ADA,STEPS=600,LINES=55
+BEGIN
+WRITE(1)
+END.
+";
+
+/// What an office answers until the first job has ended.
+#[derive(Debug, Drop, PartialEq, Eq)]
+struct Answers {
+    /// What it decides of both jobs before the first has ended.
+    before: [Admitted; 2],
+    /// What it keeps for the first job's ticket when the second job's result is brought with it.
+    stranger: Option<Standing>,
+    /// What is owed then, and once the first job's own result is settled.
+    owed: [u64; 2],
+    /// What it decides then.
+    behind: [Admitted; 2],
+    /// The numbers of the jobs whose results it hands out then.
+    handed_out: [Option<u32>; 2],
+}
+
+/// The result of a job, where it has no flaw.
+fn result_of(alloc: Global, desk: &mut Desk, job: &Arc<Job>) -> Result<Option<Ended>, AllocError> {
+    if job.flaw.is_some() {
+        return Ok(None);
+    }
+    let ended = run_job(alloc, desk, job)?;
+    Ok(Some(ended))
+}
+
+/// The number of the job whose result is handed out next.
+fn hand_out<B: QueueBrand>(office: &mut Office<B>) -> Option<u32> {
+    match office.next_section() {
+        Some(Brought::Ended(ended)) => Some(ended.job().number),
+        Some(Brought::Refused) | None => None,
+    }
+}
+
+/// Lets the first job of two end, after the second one's result was brought in its place.
+fn first_ends<B: QueueBrand, R: Wait>(
+    rt: &R,
+    alloc: Global,
+    fresh: FreshQueue,
+    book: Book,
+    jobs: &[Arc<Job>; 2],
+) -> Result<Option<Answers>, AllocError>
+    requires name { fresh.blank.name ≡ B.name }
+    requires parts { fresh.blank.parts ≡ B.parts }
+    requires table { fresh.ring.table.shared.table_id ≡ B.table }
+{
+    let (queue, put, mut pass, settled) = fresh.open::<B>();
+    let mut office = Office::new(alloc, book, put, settled)?;
+    let _one = office.arrive(jobs[0].clone()?);
+    let _two = office.arrive(jobs[1].clone()?);
+    let mut desk = Desk::new(alloc)?;
+    let own = result_of(alloc, &mut desk, &jobs[0])?;
+    let other = result_of(alloc, &mut desk, &jobs[1])?;
+    let before = [office.admit(rt, &queue), office.admit(rt, &queue)];
+    let (Some(ticket), Some(own), Some(other)) = (queue.take(rt, &mut pass), own, other) else {
+        return Ok(None);
+    };
+    let Err(stranger) = office.settle(&mut pass, ticket, other) else {
+        return Ok(None);
+    };
+    let owed = pass.owed();
+    let settled = office.settle(&mut pass, stranger.ticket, own);
+    let behind = [office.admit(rt, &queue), office.admit(rt, &queue)];
+    Ok(
+        settled.is_ok().then_some(Answers {
+            before,
+            stranger: Some(stranger.kept),
+            owed: [owed, pass.owed()],
+            behind,
+            handed_out: [hand_out(&mut office), hand_out(&mut office)],
+        }),
+    )
+}
+
+#[test]
+fn a_job_waits_for_the_end_of_another(rt: HostRuntime) -> Result<(), Fail> {
+    let alloc = rt.alloc();
+    let batch = read(alloc, WAITING)?;
+    let book = Book::open(alloc, batch.accounts.as_slice())?;
+    let mut jobs = batch.jobs.into_vec().into_iter();
+    let (Some(one), Some(two)) = (jobs.next(), jobs.next()) else {
+        return Err(Fail::from("two jobs"));
+    };
+    let jobs = [Arc::new(alloc, one)?, Arc::new(alloc, two)?];
+    let fresh = FreshQueue::new(alloc, 1)?;
+    let answers = first_ends::<Brand, HostRuntime>(&rt, alloc, fresh, book, &jobs)?;
+    let waits = Admitted::Waits {
+        job: 2,
+        low: 50,
+        high: 145,
+    };
+    let expected = Answers {
+        before: [Admitted::Accepted { job: 1 }, waits],
+        stranger: Some(Standing::Running),
+        owed: [100, 0],
+        behind: [Admitted::Accepted { job: 2 }, Admitted::NoneArrived],
+        handed_out: [Some(1), None],
+    };
+    assert_eq!(rt; answers, Some(expected));
     Ok(())
 }

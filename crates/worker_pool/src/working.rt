@@ -12,6 +12,14 @@ use office::{Office, Standing};
 use std::alloc::{AllocError, Global};
 use std::sync::{Arc, Mutex, Wait};
 use std::thread;
+use std::thread::Parker;
+use std::time::Duration;
+
+/// How often a worker that finds no ticket looks again at once.
+const LOOKS: u32 = 100;
+
+/// For how many microseconds it naps before each later look, so that a processor without work isn't kept busy.
+const NAP: u64 = 100;
 
 /// Works until the office is over: takes a ticket, runs its job and settles it; where there is no ticket, lets the office
 /// decide the next job. Where a ticket can't be settled the office is stopped, and the ticket is brought back. The pass
@@ -29,6 +37,8 @@ pub fn work<B: QueueBrand, R: Wait, G: Gate>(
     ensures owed { pass.new.owed ≡ debt_of result }
     ensures parts { pass.new.share.parts ≡ pass.old.share.parts }
 {
+    let idle = Parker::new();
+    let mut looks = 0;
     for _ in rt.forever() {
         if office.lock(rt).is_over() {
             return WorkEnd::Over;
@@ -36,9 +46,11 @@ pub fn work<B: QueueBrand, R: Wait, G: Gate>(
         match queue.take(rt, pass) {
             None => {
                 office.lock(rt).admit(rt, queue);
-                thread::yield_now();
+                rest(rt, &idle, looks);
+                looks = looks.saturating_add(1);
             }
             Some(ticket) => {
+                looks = 0;
                 if let Some(end) = serve(rt, alloc, office, pass, ticket, desk, gate) {
                     office.lock(rt).stop();
                     return end;
@@ -47,6 +59,15 @@ pub fn work<B: QueueBrand, R: Wait, G: Gate>(
         }
     }
     unreachable!()
+}
+
+/// Waits for the next look, behind so many that have found nothing.
+fn rest<R: Wait>(rt: &R, idle: &Parker, looks: u32) {
+    if looks < LOOKS {
+        thread::yield_now();
+    } else {
+        idle.park_timeout(rt, Duration::from_micros(NAP));
+    }
 }
 
 /// Runs the job of a ticket and settles it. There is an end where that can't be.

@@ -1,25 +1,32 @@
-use Rattle.std.proofs.Common.{List, subst}
-use Rattle.deck_reader.specs.JobView.{JobView}
-use Rattle.account_book.specs.BookView.{openings_of}
-use Rattle.batch_listing.specs.Listing.{sections}
+use Rattle.std.proofs.Common.{List, ℕ, refl, subst}
+use Rattle.std.specs.Io.KnownBytes.{Appends}
 use Rattle.batch_listing.specs.Writing.{AppendsPrefix}
-use Rattle.batch_runner.proofs.Progressing.{fault_of, none_written}
-use Rattle.batch_runner.proofs.Results.{at_err, error_is, some_at}
+use Rattle.batch_runner.specs.declared.halt.Halt.TheVariants.{WriteFault}
+use Rattle.batch_runner.specs.Outcome.{HasHalted, outside}
+use Rattle.batch_runner.proofs.Progressing.{front_halted, heading_halted, opened_so}
+use Rattle.batch_runner.proofs.Results.{at_this, some_at}
 use Rattle.batch_runner.proofs.listing.write_sections.Goals as goal
 
-pub returns-in_err-desks-clause-err : goal.returns-in_err-desks-clause-err
-returns-in_err-desks-clause-err g c = at_err c.from_residual-in_err-desks.result (none_written _ _)
+pub returns-in_err-opened-clause-err : goal.returns-in_err-opened-clause-err
+returns-in_err-opened-clause-err g c =
+    let start = outside (g.S.Source.left c.args.src.now) (g.S.Source.faults c.args.src.now) (g.K.Sink.written c.args.sink.now) (g.K.Sink.faults c.args.sink.now) in
+    let now = outside (g.S.Source.left c.open_batch.new.src) (g.S.Source.faults c.open_batch.new.src) (g.K.Sink.written c.args.sink.now) (g.K.Sink.faults c.args.sink.now) in
+    at_this c.from_residual.result c.in_err-opened.field-0.0 (λ halt. HasHalted start now halt) c.from_residual.ensures.1
+    (front_halted start now c.in_err-opened.field-0.0 refl c.in_err-opened.ensures.err)
 
-pub returns-in_err-desk-clause-err : goal.returns-in_err-desk-clause-err
-returns-in_err-desk-clause-err g c = at_err c.from_residual-in_err-desk.result (none_written _ _)
-
-pub returns-in_err-fresh-clause-err : goal.returns-in_err-fresh-clause-err
-returns-in_err-fresh-clause-err g c = at_err c.from_residual-in_err-fresh.result (none_written _ _)
+pub returns-in_err-write_all_of-clause-err : goal.returns-in_err-write_all_of-clause-err
+returns-in_err-write_all_of-clause-err g c =
+    let start = outside (g.S.Source.left c.args.src.now) (g.S.Source.faults c.args.src.now) (g.K.Sink.written c.args.sink.now) (g.K.Sink.faults c.args.sink.now) in
+    let now = outside (g.S.Source.left c.open_batch.new.src) (g.S.Source.faults c.open_batch.new.src) (g.K.Sink.written c.write_all_of.new.sink) (g.K.Sink.faults c.write_all_of.new.sink) in
+    let prefix : List ℕ → Type 0 = λ bytes. AppendsPrefix start.written now.written bytes in
+    at_this c.from_residual-in_err-write_all_of.result WriteFault (λ halt. HasHalted start now halt) c.from_residual-in_err-write_all_of.ensures.1
+    (heading_halted start now c.in_ok-opened.opened.intake c.in_ok-opened.opened.audit c.in_ok-opened.ensures.ok (subst prefix c.heading.ensures c.in_err-write_all_of.ensures.err) c.in_err-write_all_of.ensures.cause.failed)
 
 pub returns-clause-err : goal.returns-clause-err
 returns-clause-err g c =
-    subst (λ (jobs : List JobView). AppendsPrefix (g.K.Sink.written c.args.sink.now) (g.K.Sink.written c.serve-audit.new.sink) (sections (openings_of c.args.audit.book.accounts) jobs)) c.in_ok-jobs.ensures
-    (some_at _ _ _ c.in-Some.is c.serve-audit.ensures.some).wrote
-
-pub returns-clause-write : goal.returns-clause-write
-returns-clause-write g c = λ is. fault_of _ _ _ (error_is _ _ is) (some_at _ _ _ c.in-Some.is c.serve-audit.ensures.some).cause
+    let start = outside (g.S.Source.left c.args.src.now) (g.S.Source.faults c.args.src.now) (g.K.Sink.written c.args.sink.now) (g.K.Sink.faults c.args.sink.now) in
+    let now = outside (g.S.Source.left c.open_batch.new.src) (g.S.Source.faults c.open_batch.new.src) (g.K.Sink.written c.write_all_of.new.sink) (g.K.Sink.faults c.write_all_of.new.sink) in
+    let appends : List ℕ → Type 0 = λ bytes. Appends start.written now.written bytes in
+    some_at _ _ _ c.in-Some.is
+    (c.serve-docket.ensures.some start
+    (opened_so start now c.in_ok-opened.opened.intake c.in_ok-opened.opened.audit c.in_ok-opened.ensures.ok (subst appends c.heading.ensures c.in_ok-write_all_of.ensures.ok) c.in_ok-opened.ensures.kept c.in_ok-write_all_of.ensures.cause.same))

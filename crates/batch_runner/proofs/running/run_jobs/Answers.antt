@@ -1,22 +1,24 @@
-use Rattle.std.proofs.Common.{◌≤◌, refl, subst, sym}
+use Rattle.std.proofs.Common.{◌≤◌, ◌∙◌, ap, subst, sym}
 use Rattle.std.proofs.lemmas.List.{length-map}
+use Rattle.batch_runner.specs.declared.intake.Intake.{Intake}
 use Rattle.batch_runner.specs.ProgressLaws.{goes_further}
-use Rattle.batch_runner.proofs.Progressing.{all_so, stopped_so}
+use Rattle.batch_runner.specs.Progress.{progress}
+use Rattle.batch_runner.proofs.Progressing.{all_so, begun_so, stopped_so}
 use Rattle.batch_runner.proofs.Results.{at_some}
 use Rattle.batch_runner.proofs.running.run_jobs.Goals as goal
 
 pub returns-in_default-clause-some : goal.returns-in_default-clause-some
-returns-in_default-clause-some g c = at_some _ _ (λ halt halted. stopped_so _ _ c.args.clerk.docket.audit _ _ halt
-    (record { jobs_are = refl; output_is = refl; audit_is = refl; none = c.requires.none; free = c.requires.free; behind = c.requires.behind; tally = c.requires.tally })
-    (c.stop_without_memory.ensures.goes_on _) halted)
+returns-in_default-clause-some g c = λ start h. at_some _ _ (λ halt halted.
+    stopped_so start (progress c.stop_without_memory.new.self _) halt halted ((c.stop_without_memory.ensures.goes_on _).stands start (begun_so start _ c.args.clerk.docket c.requires.none c.requires.free h)))
 
 pub returns-clause-all : goal.returns-clause-all
-returns-clause-all g c = λ none. all_so _ _ c.args.clerk.docket.audit _ _
-    (record { jobs_are = refl; output_is = refl; audit_is = refl; none = c.requires.none; free = c.requires.free; behind = c.requires.behind; tally = c.requires.tally })
-    (goes_further _ _ _ c.run_pool-pooled.ensures.went.1 c.finish.ensures.goes_on) none
-    (subst (λ n. n ≤ c.finish.result.docket.written) (sym (length-map c.finish.result.docket.jobs.items (λ j. j.value))) (c.finish.ensures.finished none))
+returns-clause-all g c = λ start h none.
+    all_so start (progress c.finish.result.docket _) none
+    (ap (λ (i : Intake). i.reader) c.finish.ensures.intake ∙ c.run_pool-pooled.ensures.finished (c.finish.ensures.halted none))
+    (subst (λ n. n ≤ c.finish.result.docket.written) (sym (length-map c.finish.result.docket.intake.jobs.items (λ j. j.value))) (c.finish.ensures.finished none))
+    ((goes_further _ _ _ c.run_pool-pooled.ensures.went.2 c.finish.ensures.goes_on).stands start (begun_so start _ c.args.clerk.docket c.requires.none c.requires.free h))
 
 pub returns-clause-some : goal.returns-clause-some
-returns-clause-some g c = at_some _ _ (λ halt halted. stopped_so _ _ c.args.clerk.docket.audit _ _ halt
-    (record { jobs_are = refl; output_is = refl; audit_is = refl; none = c.requires.none; free = c.requires.free; behind = c.requires.behind; tally = c.requires.tally })
-    (goes_further _ _ _ c.run_pool-pooled.ensures.went.1 c.finish.ensures.goes_on) halted)
+returns-clause-some g c = λ start h. at_some _ _ (λ halt halted.
+    stopped_so start (progress c.finish.result.docket _) halt halted
+    ((goes_further _ _ _ c.run_pool-pooled.ensures.went.2 c.finish.ensures.goes_on).stands start (begun_so start _ c.args.clerk.docket c.requires.none c.requires.free h)))

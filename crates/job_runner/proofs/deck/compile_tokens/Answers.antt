@@ -1,15 +1,18 @@
-use Rattle.std.proofs.Common.{inr, subst}
+use Rattle.std.proofs.Common.{List, inr, subst}
 use Rattle.algolw_parser.specs.Parsed.{Means}
 use Rattle.algolw_parser.specs.declared.parsing.Parsed.TheVariants.{Bad, Tree}
+use Rattle.algolw_tree.specs.declared.tokens.Token.{Token}
 use Rattle.job_runner.proofs.Compiling.{one_shown}
 use Rattle.job_runner.proofs.deck.compile_tokens.Goals as goal
 
 pub returns-in-Tree : goal.returns-in-Tree
 returns-in-Tree c = λ deck are.
-    let means : Means c.args.tokens.now (Tree c.in-Tree.phrase) = subst (Means c.args.tokens.now) c.in-Tree.is c.in_ok-phrase.ensures.means in
-    c.compile_phrase.ensures deck (c.args.tokens.now, are, means)
+    let of_slice : Means c.as_slice.result.now (Tree c.in-Tree.phrase) = subst (Means c.as_slice.result.now) c.in-Tree.is c.in_ok-parsed.ensures.means in
+    let means : Means c.args.tokens.items (Tree c.in-Tree.phrase) = subst (λ (tokens : List Token). Means tokens (Tree c.in-Tree.phrase)) c.as_slice.ensures.value of_slice in
+    c.compile_phrase.ensures deck (c.args.tokens.items, are, means)
 
 pub returns-in_ok-vec-in-Bad : goal.returns-in_ok-vec-in-Bad
 returns-in_ok-vec-in-Bad c = λ deck are.
-    let means : Means c.args.tokens.now (Bad c.in-Bad.fault) = subst (Means c.args.tokens.now) c.in-Bad.is c.in_ok-phrase.ensures.means in
-    one_shown deck c.in-Bad.fault c.in_ok-vec-in-Bad.field-0.items (inr (c.args.tokens.now, means.0, are, means.1, means.2)) c.in_ok-vec-in-Bad.ensures.items
+    let of_slice : Means c.as_slice.result.now (Bad c.in-Bad.fault) = subst (Means c.as_slice.result.now) c.in-Bad.is c.in_ok-parsed.ensures.means in
+    let means : Means c.args.tokens.items (Bad c.in-Bad.fault) = subst (λ (tokens : List Token). Means tokens (Bad c.in-Bad.fault)) c.as_slice.ensures.value of_slice in
+    one_shown deck c.in-Bad.fault c.in_ok-vec-in-Bad.field-0.items (inr (c.args.tokens.items, means.0, are, means.1, means.2)) c.in_ok-vec-in-Bad.ensures.items

@@ -22,9 +22,9 @@ run_made-requires-clause-few g c = λ _ _. jobs_in_range _ _ _ _ _ (said_as c.in
 
 pub returns-in-Ok-Run-clause-complete : goal.returns-in-Ok-Run-clause-complete
 returns-in-Ok-Run-clause-complete g c = λ says.
-    after_left c.run_batch.result (g.S.Source.left c.args.src.now) (g.S.Source.left c.run_batch.new.src)
-    (Rose (g.S.Source.faults c.args.src.now) (g.S.Source.faults c.run_batch.new.src)) (Rose (g.K.Sink.faults c.args.sink.now) (g.K.Sink.faults c.run_batch.new.sink))
-    c.status_after.result c.status_after.ensures c.run_batch.ensures.read c.run_batch.ensures.write c.run_batch.ensures.large
+    after_left c.write_listing.result (g.S.Source.left c.args.src.now) (g.S.Source.left c.write_listing.new.src)
+    (Rose (g.S.Source.faults c.args.src.now) (g.S.Source.faults c.write_listing.new.src)) (Rose (g.K.Sink.faults c.args.sink.now) (g.K.Sink.faults c.write_listing.new.sink))
+    c.status_after.result c.status_after.ensures c.write_listing.ensures.read c.write_listing.ensures.write c.write_listing.ensures.large
 
 pub returns-in-Ok-Run-clause-made : goal.returns-in-Ok-Run-clause-made
 returns-in-Ok-Run-clause-made g c = λ seed jobs says. absurd (not_made _ _ _ seed jobs (said_as c.in-Ok-Run.field-0-is c.in-Ok-Run.ensures.ok) says)

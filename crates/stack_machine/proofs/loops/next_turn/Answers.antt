@@ -8,34 +8,34 @@ use Rattle.stack_machine.proofs.LoopRows.{next_start, left_stands, left_clear, l
 use Rattle.stack_machine.proofs.loops.next_turn.Goals as goal
 
 pub cut_to_position-requires : goal.cut_to_position-requires
-cut_to_position-requires g c = next_start g.seen c.args.state.now c.args.now.held c.requires.0 c.args.target c.args.position c.requires.1.1.1.1
+cut_to_position-requires g c = next_start g.seen c.args.state.now c.args.held c.requires.0 c.args.target c.args.position c.requires.1.1.1.1
 
 pub counts_with-counting-requires-clause-control : goal.counts_with-counting-requires-clause-control
 counts_with-counting-requires-clause-control g c =
     let z = c.cut_to_position.new.state in
-    let stands = left_stands g.seen c.args.state.now c.args.now.held c.requires.0 c.args.target c.args.position z c.cut_to_position.ensures c.requires.1.1.1.1 in
-    let clear = left_clear g.seen c.args.state.now c.args.now.held c.requires.0 c.args.target c.args.position z c.cut_to_position.ensures c.requires.1.1.1.1 in
-    control_there g.seen z c.args.now.held stands (next_turn g.seen.setting c.args.target) clear
+    let stands = left_stands g.seen c.args.state.now c.args.held c.requires.0 c.args.target c.args.position z c.cut_to_position.ensures c.requires.1.1.1.1 in
+    let clear = left_clear g.seen c.args.state.now c.args.held c.requires.0 c.args.target c.args.position z c.cut_to_position.ensures c.requires.1.1.1.1 in
+    control_there g.seen z c.args.held stands (next_turn g.seen.setting c.args.target) clear
 
 pub counts_with-counting-requires-clause-step : goal.counts_with-counting-requires-clause-step
 counts_with-counting-requires-clause-step g c =
     let z = c.cut_to_position.new.state in
-    let stands = left_stands g.seen c.args.state.now c.args.now.held c.requires.0 c.args.target c.args.position z c.cut_to_position.ensures c.requires.1.1.1.1 in
-    let clear = left_clear g.seen c.args.state.now c.args.now.held c.requires.0 c.args.target c.args.position z c.cut_to_position.ensures c.requires.1.1.1.1 in
-    step_below g.seen z c.args.now.held stands (next_turn g.seen.setting c.args.target) clear
+    let stands = left_stands g.seen c.args.state.now c.args.held c.requires.0 c.args.target c.args.position z c.cut_to_position.ensures c.requires.1.1.1.1 in
+    let clear = left_clear g.seen c.args.state.now c.args.held c.requires.0 c.args.target c.args.position z c.cut_to_position.ensures c.requires.1.1.1.1 in
+    step_below g.seen z c.args.held stands (next_turn g.seen.setting c.args.target) clear
 
 pub counts_with-counting-requires-clause-limit : goal.counts_with-counting-requires-clause-limit
 counts_with-counting-requires-clause-limit g c =
     let z = c.cut_to_position.new.state in
-    let stands = left_stands g.seen c.args.state.now c.args.now.held c.requires.0 c.args.target c.args.position z c.cut_to_position.ensures c.requires.1.1.1.1 in
-    let clear = left_clear g.seen c.args.state.now c.args.now.held c.requires.0 c.args.target c.args.position z c.cut_to_position.ensures c.requires.1.1.1.1 in
-    limit_below g.seen z c.args.now.held stands (next_turn g.seen.setting c.args.target) clear
+    let stands = left_stands g.seen c.args.state.now c.args.held c.requires.0 c.args.target c.args.position z c.cut_to_position.ensures c.requires.1.1.1.1 in
+    let clear = left_clear g.seen c.args.state.now c.args.held c.requires.0 c.args.target c.args.position z c.cut_to_position.ensures c.requires.1.1.1.1 in
+    limit_below g.seen z c.args.held stands (next_turn g.seen.setting c.args.target) clear
 
 pub overflow_cast-control : goal.overflow_cast-control
 overflow_cast-control g c =
     let v = g.seen in
     let s = c.args.state.now in
-    let h = c.args.now.held in
+    let h = c.args.held in
     let z = c.cut_to_position.new.state in
     let w = c.counts_with-counting in
     let i = w.result.control in
@@ -51,7 +51,7 @@ overflow_cast-control g c =
 pub take_turn-requires : goal.take_turn-requires
 take_turn-requires g c =
     let z = c.cut_to_position.new.state in
-    let stands = left_stands g.seen c.args.state.now c.args.now.held c.requires.0 c.args.target c.args.position z c.cut_to_position.ensures c.requires.1.1.1.1 in
+    let stands = left_stands g.seen c.args.state.now c.args.held c.requires.0 c.args.target c.args.position z c.cut_to_position.ensures c.requires.1.1.1.1 in
     let some : 0 < length z.store.cells = counted_some z.store c.counts_with-counting.result.control c.counts_with-counting.ensures.control in
     (stands, (c.requires.1.0, some))
 
@@ -59,7 +59,7 @@ pub leave_loop-requires : goal.leave_loop-requires
 leave_loop-requires g c =
     let v = g.seen in
     let s = c.args.state.now in
-    let h = c.args.now.held in
+    let h = c.args.held in
     let z = c.cut_to_position.new.state in
     let w = c.counts_with-counting in
     let i = w.result.control in
@@ -78,7 +78,7 @@ pub returns-then-has_turn : goal.returns-then-has_turn
 returns-then-has_turn g c =
     let v = g.seen in
     let s = c.args.state.now in
-    let h = c.args.now.held in
+    let h = c.args.held in
     let z = c.cut_to_position.new.state in
     let w = c.counts_with-counting in
     let i = w.result.control in
@@ -99,7 +99,7 @@ pub returns-else-has_turn : goal.returns-else-has_turn
 returns-else-has_turn g c =
     let v = g.seen in
     let s = c.args.state.now in
-    let h = c.args.now.held in
+    let h = c.args.held in
     let z = c.cut_to_position.new.state in
     let w = c.counts_with-counting in
     let i = w.result.control in

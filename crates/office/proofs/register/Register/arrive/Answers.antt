@@ -7,7 +7,7 @@ use Rattle.batch_core.specs.declared.event.Event.{Event}
 use Rattle.batch_core.specs.declared.event.Event.TheVariants.{Arrive}
 use Rattle.batch_core.specs.declared.job.Claim.{Claim}
 use Rattle.batch_core.specs.Events.{IsThere, step}
-use Rattle.office.specs.Claims.{claim_of_job}
+use Rattle.batch_core.specs.Claims.{claim_of_job}
 use Rattle.office.specs.Register.{RegisterView}
 use Rattle.office.proofs.Room.{may_arrive, rebuilt, registered_arrive, room_before}
 use Rattle.office.proofs.register.Register.arrive.Goals as goal

@@ -1,0 +1,57 @@
+-- What a run has read and written, and why it stopped.
+use Rattle.std.specs.Prelude.{ℕ, ◌≡◌, ◌⊎◌, true, false, List, Option}
+use Rattle.std.specs.Io.KnownBytes.{Consumes, Appends, IsAtEnd}
+use Rattle.batch_io.specs.Causes.{Rose}
+use Rattle.deck_reader.specs.declared.reader.FeedError.{FeedError}
+use Rattle.deck_reader.specs.declared.reader.FeedError.TheVariants as feed
+use Rattle.deck_reader.specs.Batch.{passes, too_large}
+use Rattle.batch_listing.specs.Listing.{listing}
+use Rattle.batch_listing.specs.Writing.{AppendsPrefix}
+use Rattle.batch_runner.specs.declared.halt.Halt.{Halt}
+use Rattle.batch_runner.specs.declared.halt.Halt.TheVariants.{NoMemory, ReadFault, WriteFault, TooLarge}
+
+abbrev pub halt_of : FeedError → Halt
+halt_of feed.TooLarge = TooLarge
+halt_of feed.NoMemory = NoMemory
+
+-- the whole source was read, it wasn't too large, and its listing was written whole
+pub record IsDone (left left' written written' : Option (List ℕ)) : Type 0 where
+  pub input : List ℕ
+  pub read : Consumes left left' input
+  pub to_end : IsAtEnd left'
+  pub fits : too_large input ≡ false
+  pub wrote : Appends written written' (listing input)
+
+-- a part of the source was read, and a prefix of the listing of that part was written
+pub record IsCutShort (left left' written written' : Option (List ℕ)) : Type 0 where
+  pub input : List ℕ
+  pub read : Consumes left left' input
+  pub wrote : AppendsPrefix written written' (listing input)
+
+-- what was read passes a limit whatever comes behind it, or is the whole source and too large
+pub record IsTooLarge (left left' : Option (List ℕ)) : Type 0 where
+  pub input : List ℕ
+  pub read : Consumes left left' input
+  pub large : (passes input ≡ true) ⊎ (IsAtEnd left' × (too_large input ≡ true))
+
+-- what a source has left and a sink was given, as far as they tell, and how many faults each has met
+pub record Outside : Type 0 where
+  pub left : Option (List ℕ)
+  pub read_faults : ℕ
+  pub written : Option (List ℕ)
+  pub write_faults : ℕ
+
+abbrev pub outside : Option (List ℕ) → ℕ → Option (List ℕ) → ℕ → Outside
+outside left read_faults written write_faults = record { left = left; read_faults = read_faults; written = written; write_faults = write_faults }
+
+-- memory may be wanting at any time; a read or a write that failed was counted; a batch that is too large was read so far
+abbrev pub HasCause : Halt → Outside → Outside → Type 0
+HasCause NoMemory start now = Unit {0}
+HasCause ReadFault start now = Rose start.read_faults now.read_faults
+HasCause WriteFault start now = Rose start.write_faults now.write_faults
+HasCause TooLarge start now = IsTooLarge start.left now.left
+
+-- a prefix of the listing of what was read was written since the start, and why no more was
+pub record HasHalted (start now : Outside) (halt : Halt) : Type 0 where
+  pub cut : IsCutShort start.left now.left start.written now.written
+  pub cause : HasCause halt start now
