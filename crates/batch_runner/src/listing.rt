@@ -16,6 +16,7 @@ use account_book::Book;
 use batch_io::{Gate, MemSource, Sink, Source};
 use batch_listing::{Audit, heading, write_all_of};
 use batch_summary::Tally;
+use crossbeam_utils::CachePadded;
 use job_queue::FreshQueue;
 use job_runner::Desk;
 use std::alloc::{AllocError, Global};
@@ -132,7 +133,7 @@ struct Opened {
     intake: Intake,
     book: Book,
     audit: Audit,
-    desks: Vec<Desk>,
+    desks: Vec<CachePadded<Desk>>,
     desk: Desk,
     fresh: FreshQueue,
 }
@@ -167,7 +168,7 @@ fn serve<R: Threads + Wait + Sync, S: Source, K: Sink, G: Gate>(
     book: Book,
     audit: Audit,
     fresh: FreshQueue,
-    desks: &mut [Desk],
+    desks: &mut [CachePadded<Desk>],
     desk: Desk,
     gate: &G,
 ) -> Docket
@@ -192,14 +193,14 @@ fn keep_room(alloc: Global) -> Result<(), AllocError> {
     room.reserve_exact(KEPT_ROOM)
 }
 
-/// So many desks.
-fn desks(alloc: Global, count: u32) -> Result<Vec<Desk>, AllocError>
+/// So many desks, each on lines of the caches of its own, so that no worker slows another down.
+fn desks(alloc: Global, count: u32) -> Result<Vec<CachePadded<Desk>>, AllocError>
     ensures { IfOk result (λ desks. length desks.items ≡ count) }
 {
     keep_room(alloc)?;
     let mut all = Vec::with_capacity(alloc, count as usize)?;
     for _ in 0..count {
-        all.push(Desk::new(alloc)?)?;
+        all.push(CachePadded::new(Desk::new(alloc)?))?;
     }
     Ok(all)
 }

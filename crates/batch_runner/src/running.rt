@@ -5,6 +5,7 @@ ghost use Rattle.batch_runner.specs.Progress.{GoesOn, HasWritten, IsServed, begu
 use crate::clerk::{Clerk, Docket};
 use account_book::Book;
 use batch_io::{Gate, Sink, Source};
+use crossbeam_utils::CachePadded;
 use job_queue::{FreshQueue, QueueBrand};
 use job_runner::Desk;
 use office::Office;
@@ -61,7 +62,7 @@ pub(crate) fn run_jobs<
     alloc: Global,
     fresh: FreshQueue,
     book: Book,
-    desks: &mut [Desk],
+    desks: &mut [CachePadded<Desk>],
     gate: &G,
     mut clerk: Clerk<'s, 'k, S, K, Docket>,
 ) -> Clerk<'s, 'k, S, K, Docket>

@@ -8,6 +8,7 @@ use crate::staff::{Pooled, Staff, Worked};
 use crate::working::work;
 use batch_io::Gate;
 use core::thread::{Anything, Stack};
+use crossbeam_utils::CachePadded;
 use job_queue::{JobQueue, QueueBrand, TakePass};
 use job_runner::Desk;
 use office::Office;
@@ -19,7 +20,7 @@ use std::thread::{Scope, Threads};
 /// The stack of a worker's thread, which suffices for a deck that nests as deep as may be.
 const STACK: usize = 16 << 20;
 
-/// Runs a worker at each desk: those at all but the last in threads of their own, and the last when the caller, which takes
+/// Runs a worker at each desk, which shares no line of the processors' caches with another: those at all but the last in threads of their own, and the last when the caller, which takes
 /// its turns until it is done, has become one. It returns when all have, with the office, what they brought back, and the
 /// caller.
 pub fn run_pool<B, R, G, C>(
@@ -28,7 +29,7 @@ pub fn run_pool<B, R, G, C>(
     office: Office<B>,
     queue: JobQueue<B>,
     pass: TakePass<B>,
-    desks: &mut [Desk],
+    desks: &mut [CachePadded<Desk>],
     gate: &G,
     caller: C,
 ) -> (Pooled<B>, C)
@@ -100,7 +101,7 @@ impl<'e, B: QueueBrand, R: Wait, G: Gate> Hall<'e, B, R, G> {
 /// What all workers and the caller bring back.
 fn staffed<B, R, G, C>(
     hall: &Hall<'_, B, R, G>,
-    desks: &mut [Desk],
+    desks: &mut [CachePadded<Desk>],
     pass: TakePass<B>,
     caller: C,
 ) -> Staff<B, C>
@@ -138,12 +139,12 @@ where
 fn worked<B: QueueBrand, R: Wait, G: Gate>(
     hall: &Hall<'_, B, R, G>,
     mut pass: TakePass<B>,
-    desk: &mut Desk,
+    desk: &mut CachePadded<Desk>,
 ) -> Worked<B>
     requires part { pass.share.parts ≡ 1 }
     requires owed { pass.owed ≡ 0 }
 {
-    let end = hall.work(&mut pass, desk);
+    let end = hall.work(&mut pass, &mut **desk);
     Worked { pass, end }
 }
 
@@ -151,7 +152,7 @@ fn worked<B: QueueBrand, R: Wait, G: Gate>(
 fn called<B: QueueBrand, R: Wait, G: Gate, C: Caller<B> + Drop>(
     hall: &Hall<'_, B, R, G>,
     mut pass: TakePass<B>,
-    desk: &mut Desk,
+    desk: &mut CachePadded<Desk>,
     caller: C,
 ) -> Staff<B, C>
     requires { pass.owed ≡ 0 }
@@ -161,7 +162,7 @@ fn called<B: QueueBrand, R: Wait, G: Gate, C: Caller<B> + Drop>(
     ensures over { AreOverFrom 1 result.brought }
 {
     let caller = take_turns(hall.rt, hall.office, hall.queue, caller);
-    let end = hall.work(&mut pass, desk);
+    let end = hall.work(&mut pass, &mut **desk);
     Staff::alone(pass, caller, end)
 }
 
@@ -170,8 +171,8 @@ fn called<B: QueueBrand, R: Wait, G: Gate, C: Caller<B> + Drop>(
 fn hire<'s, 'e, 'h, B, R, G, C>(
     scope: &'s Scope<'s, &'e ()>,
     hall: &'e Hall<'h, B, R, G>,
-    desk: &'e mut Desk,
-    others: &'e mut [Desk],
+    desk: &'e mut CachePadded<Desk>,
+    others: &'e mut [CachePadded<Desk>],
     mut pass: TakePass<B>,
     caller: C,
 ) -> Staff<B, C>

@@ -3,6 +3,7 @@ ghost use Rattle.std.specs.Prelude.{◌≡◌, ◌≤◌, IfOk, ⊤, length};
 use crate::{Caller, Turn, WorkEnd, gather, run_pool, work};
 use account_book::Book;
 use batch_io::OpenGate;
+use crossbeam_utils::CachePadded;
 use deck_reader::{Batch, FeedError, Job, Reader};
 use job_queue::{FreshQueue, JobQueue, QueueBrand};
 use job_runner::{Brought, Desk, Ended, run_job};
@@ -120,7 +121,7 @@ fn pooled<B: QueueBrand + Send + Sync, R: Threads + Wait + Sync>(
     fresh: FreshQueue,
     book: Book,
     batch: Batch,
-    desks: &mut [Desk],
+    desks: &mut [CachePadded<Desk>],
     caller: Decides,
 ) -> Result<(u64, u64, u64), AllocError>
     requires some { 1 ≤ length desks.old }
@@ -141,7 +142,7 @@ fn pooled<B: QueueBrand + Send + Sync, R: Threads + Wait + Sync>(
 fn of_two<R: Threads + Wait + Sync>(
     rt: &R,
     alloc: Global,
-    desks: &mut [Desk],
+    desks: &mut [CachePadded<Desk>],
     caller: Decides,
 ) -> Result<(u64, u64, u64), Fail>
     requires some { 1 ≤ length desks.old }
@@ -154,14 +155,19 @@ fn of_two<R: Threads + Wait + Sync>(
     Ok(found)
 }
 
+/// A desk with nothing else on its lines of the caches.
+fn desk(alloc: Global) -> Result<CachePadded<Desk>, AllocError> {
+    Ok(CachePadded::new(Desk::new(alloc)?))
+}
+
 #[test]
 fn what_workers_leave_is_gathered(rt: HostRuntime) -> Result<(), Fail> {
     let alloc = rt.alloc();
-    let mut desks = [Desk::new(alloc)?, Desk::new(alloc)?];
+    let mut desks = [desk(alloc)?, desk(alloc)?];
     let all_ended = of_two(&rt, alloc, &mut desks, Decides { stops: false })?;
     assert_eq!(rt; all_ended, (0, 0, 0));
-    let mut desk = [Desk::new(alloc)?];
-    let none_begun = of_two(&rt, alloc, &mut desk, Decides { stops: true })?;
+    let mut alone = [desk(alloc)?];
+    let none_begun = of_two(&rt, alloc, &mut alone, Decides { stops: true })?;
     assert_eq!(rt; none_begun, (604, 0, 604));
     Ok(())
 }
