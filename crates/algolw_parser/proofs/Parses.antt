@@ -1,7 +1,6 @@
 -- What parsing gives, by what reading gives.
 use Rattle.std.proofs.Common.{◌≡◌, ◌==◌, true, false, List, [], ◌∷◌, length, refl, sym, ◌∙◌, ap, subst, arith, Option, Some, None}
 use Rattle.std.proofs.lemmas.Bool.{eqb-true}
-use Rattle.std.specs.Prelude.{IfSome, IsSome}
 use Rattle.value_ops.specs.declared.places.Place.{Place}
 use Rattle.algolw_tree.specs.declared.tokens.Token.{Token}
 use Rattle.algolw_tree.specs.Tree.{Phrase}
@@ -38,62 +37,45 @@ reads_program w x [] e h = ap answer_of e
 reads_program w x (t ∷ r) e h = absurd (let k : length (t ∷ r) ≡ 0 = eqb-true (length (t ∷ r)) 0 h in omega arith)
 
 -- a diagnostic of the number, at a token that is left
-bad_place : (p : Option Place) (r : List Token) (t : Token) (b : Parsed) (n : _) → p ≡ place_at (t ∷ r) → IfSome p (λ q. b ≡ parsed.Bad (record { number = n; place = q })) → b ≡ parsed.Bad (record { number = n; place = t.place })
-bad_place p r t b n e h = subst (λ p. IfSome p (λ q. b ≡ parsed.Bad (record { number = n; place = q }))) e h
+bad_place : (p : Place) (r : List Token) (t : Token) (b : Parsed) (n : _) → p ≡ place_at (t ∷ r) → b ≡ parsed.Bad (record { number = n; place = p }) → b ≡ parsed.Bad (record { number = n; place = t.place })
+bad_place p r t b n e h = subst (λ (q : Place). b ≡ parsed.Bad (record { number = n; place = q })) e h
 
-pub reads_more : (w : List Token) (x : Phrase) (r : List Token) (p : Option Place) (b : Parsed) → read_program w ≡ Got x None r → (length r == 0) ≡ false → p ≡ place_at r → IfSome p (λ q. b ≡ parsed.Bad (record { number = 20; place = q })) → Reads w b
+pub reads_more : (w : List Token) (x : Phrase) (r : List Token) (p : Place) (b : Parsed) → read_program w ≡ Got x None r → (length r == 0) ≡ false → p ≡ place_at r → b ≡ parsed.Bad (record { number = 20; place = p }) → Reads w b
 unfolding parsed
 reads_more w x [] p b e h i k = cc
 reads_more w x (t ∷ r) p b e h i k = subst (Reads w) (sym (bad_place p r t b 20 i k)) (Unexpected t r, ap answer_of e, refl)
 
-module _ (w : List Token) (p q : Option Place) (e : Stop) (ended : IsEnded w) (place : q ≡ p) where
+module _ (w : List Token) (p q : Place) (e : Stop) (ended : IsEnded w) (place : q ≡ p) where
   module _ (is : e ≡ stop.Unexpected p) where
-    named : Fails {A = Phrase} e (read_program w) → (t : Token) × (r : List Token) × (read_program w ≡ Bad None (t ∷ r)) × (q ≡ Some t.place)
+    named : Fails {A = Phrase} e (read_program w) → (t : Token) × (r : List Token) × (read_program w ≡ Bad None (t ∷ r)) × (q ≡ t.place)
     named f = go (subst (λ e. Fails {A = Phrase} e (read_program w)) is f)
       where
-        more : (r : List Token) → read_program w ≡ Bad None r → p ≡ place_at r → (t : Token) × (r2 : List Token) × (r ≡ t ∷ r2) → (t : Token) × (r : List Token) × (read_program w ≡ Bad None (t ∷ r)) × (q ≡ Some t.place)
+        more : (r : List Token) → read_program w ≡ Bad None r → p ≡ place_at r → (t : Token) × (r2 : List Token) × (r ≡ t ∷ r2) → (t : Token) × (r : List Token) × (read_program w ≡ Bad None (t ∷ r)) × (q ≡ t.place)
         more r h i (t, r2, k) = (t, r2, h ∙ ap (Bad None) k, place ∙ i ∙ ap place_at k)
 
-        go : Fails {A = Phrase} (stop.Unexpected p) (read_program w) → (t : Token) × (r : List Token) × (read_program w ≡ Bad None (t ∷ r)) × (q ≡ Some t.place)
+        go : Fails {A = Phrase} (stop.Unexpected p) (read_program w) → (t : Token) × (r : List Token) × (read_program w ≡ Bad None (t ∷ r)) × (q ≡ t.place)
         go (r, h, i) = more r h i (names_token w r ended h)
 
-    pub some_unexpected : Fails {A = Phrase} e (read_program w) → IsSome q
-    some_unexpected f = go (named f)
-      where
-        go : (t : Token) × (r : List Token) × (read_program w ≡ Bad None (t ∷ r)) × (q ≡ Some t.place) → IsSome q
-        go (t, r, h, i) = subst IsSome (sym i) refl
-
-    pub reads_unexpected : (b : Parsed) → Fails {A = Phrase} e (read_program w) → IfSome q (λ q. b ≡ parsed.Bad (record { number = 20; place = q })) → Reads w b
+    pub reads_unexpected : (b : Parsed) → Fails {A = Phrase} e (read_program w) → b ≡ parsed.Bad (record { number = 20; place = q }) → Reads w b
     unfolding parsed
     reads_unexpected b f k = go (named f)
       where
-        go : (t : Token) × (r : List Token) × (read_program w ≡ Bad None (t ∷ r)) × (q ≡ Some t.place) → Reads w b
+        go : (t : Token) × (r : List Token) × (read_program w ≡ Bad None (t ∷ r)) × (q ≡ t.place) → Reads w b
         go (t, r, h, i) = subst (Reads w) (sym (bad_place q r t b 20 i k)) (Unexpected t r, ap answer_of h, refl)
 
   module _ (is : e ≡ stop.TooDeep p) where
-    deep_named : Fails {A = Phrase} e (read_program w) → (t : Token) × (r : List Token) × (read_program w ≡ Deep (t ∷ r)) × (q ≡ Some t.place)
+    deep_named : Fails {A = Phrase} e (read_program w) → (t : Token) × (r : List Token) × (read_program w ≡ Deep (t ∷ r)) × (q ≡ t.place)
     deep_named f = go (subst (λ e. Fails {A = Phrase} e (read_program w)) is f)
       where
-        more : (r : List Token) → read_program w ≡ Deep r → p ≡ place_at r → (t : Token) × (r2 : List Token) × (r ≡ t ∷ r2) → (t : Token) × (r : List Token) × (read_program w ≡ Deep (t ∷ r)) × (q ≡ Some t.place)
+        more : (r : List Token) → read_program w ≡ Deep r → p ≡ place_at r → (t : Token) × (r2 : List Token) × (r ≡ t ∷ r2) → (t : Token) × (r : List Token) × (read_program w ≡ Deep (t ∷ r)) × (q ≡ t.place)
         more r h i (t, r2, k) = (t, r2, h ∙ ap Deep k, place ∙ i ∙ ap place_at k)
 
-        go : Fails {A = Phrase} (stop.TooDeep p) (read_program w) → (t : Token) × (r : List Token) × (read_program w ≡ Deep (t ∷ r)) × (q ≡ Some t.place)
+        go : Fails {A = Phrase} (stop.TooDeep p) (read_program w) → (t : Token) × (r : List Token) × (read_program w ≡ Deep (t ∷ r)) × (q ≡ t.place)
         go (r, h, i) = more r h i (names_deep w r ended h)
 
-    pub some_too_deep : Fails {A = Phrase} e (read_program w) → IsSome q
-    some_too_deep f = go (deep_named f)
-      where
-        go : (t : Token) × (r : List Token) × (read_program w ≡ Deep (t ∷ r)) × (q ≡ Some t.place) → IsSome q
-        go (t, r, h, i) = subst IsSome (sym i) refl
-
-    pub reads_too_deep : (b : Parsed) → Fails {A = Phrase} e (read_program w) → IfSome q (λ q. b ≡ parsed.Bad (record { number = 21; place = q })) → Reads w b
+    pub reads_too_deep : (b : Parsed) → Fails {A = Phrase} e (read_program w) → b ≡ parsed.Bad (record { number = 21; place = q }) → Reads w b
     unfolding parsed
     reads_too_deep b f k = go (deep_named f)
       where
-        go : (t : Token) × (r : List Token) × (read_program w ≡ Deep (t ∷ r)) × (q ≡ Some t.place) → Reads w b
+        go : (t : Token) × (r : List Token) × (read_program w ≡ Deep (t ∷ r)) × (q ≡ t.place) → Reads w b
         go (t, r, h, i) = subst (Reads w) (sym (bad_place q r t b 21 i k)) (TooDeep t r, ap answer_of h, refl)
-
--- and a token is left
-pub some_more : (r : List Token) (p : Option Place) → (length r == 0) ≡ false → p ≡ place_at r → IsSome p
-some_more [] p h i = cc
-some_more (t ∷ r) p h i = subst IsSome (sym i) refl

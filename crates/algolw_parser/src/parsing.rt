@@ -1,8 +1,8 @@
-ghost use Rattle.std.specs.Prelude.{◌≡◌, IfOk, IsSome, IfSome};
+ghost use Rattle.std.specs.Prelude.{◌≡◌, IfOk};
 ghost use Rattle.algolw_tree.specs.Programs.{IsEnded};
 ghost use Rattle.algolw_tree.specs.View.{tree};
 ghost use Rattle.algolw_grammar.specs.Reading.{read_program};
-ghost use Rattle.token_reader.specs.Gives.{Gives};
+ghost use Rattle.token_reader.specs.Gives.{Gives, boxed_tree};
 ghost use Rattle.algolw_parser.specs.declared.parsing.Parsed.TheVariants.{Bad};
 ghost use Rattle.algolw_parser.specs.Parsed.{Means, Reads};
 
@@ -26,8 +26,8 @@ pub enum Parsed {
 
 /// `block [ "." ] end-of-deck`
 #[tactic(auto, unfolding(algolw_grammar::specs::Reading::read_program_by))]
-fn program(parser: &mut Parser<'_>) -> Result<Phrase, Stop>
-    ensures { Gives tree result parser.new.rest.now (read_program parser.old.rest.now) }
+fn program(parser: &mut Parser<'_>) -> Result<Box<Phrase>, Stop>
+    ensures { Gives boxed_tree result parser.new.rest.now (read_program parser.old.rest.now) }
 {
     let block = block(parser, room())?;
     if parser.at_symbol(Symbol::Stop) {
@@ -48,11 +48,9 @@ fn room() -> u32
 }
 
 /// A diagnostic with this number, at the place of a token.
-fn bad(number: u8, place: Option<Place>) -> Parsed
-    requires { IsSome place }
-    ensures { IfSome place (λ p. result ≡ Bad (record { number = number; place = p })) }
+fn bad(number: u8, place: Place) -> Parsed
+    ensures { result ≡ Bad (record { number = number; place = place }) }
 {
-    let Some(place) = place else { unreachable!() };
     Parsed::Bad(Diagnostic { number, place })
 }
 
@@ -68,7 +66,7 @@ pub fn parse(alloc: Global, tokens: &[Token]) -> Result<Parsed, AllocError>
         rest: tokens,
     };
     match program(&mut parser) {
-        Ok(program) if parser.rest.is_empty() => Ok(Parsed::Tree(program)),
+        Ok(program) if parser.rest.is_empty() => Ok(Parsed::Tree(Box::into_inner(program))),
         Ok(_) => Ok(bad(Diagnostic::NOT_EXPECTED_HERE, parser.place())),
         Err(Stop::Memory) => Err(AllocError),
         Err(Stop::Unexpected(place)) => Ok(bad(Diagnostic::NOT_EXPECTED_HERE, place)),

@@ -3,7 +3,7 @@ ghost use Rattle.std.specs.Option.{option_map};
 ghost use Rattle.algolw_tree.specs.declared.tokens.Symbol.TheVariants.{Comma, Semicolon};
 ghost use Rattle.algolw_tree.specs.View.{tree, spec_tree, link_tree, list_tree, actual_tree, bound_tree, item_tree, decl_tree};
 ghost use Rattle.algolw_grammar.specs.Reading.{readers, read_perhaps, read_if, read_case, read_for, read_while, read_goto, read_assert, read_assignment, read_rel, read_neg, read_prim, read_block, read_decls, read_decl, read_procedure, read_bound, read_item, read_lists, read_listing, read_actual};
-ghost use Rattle.token_reader.specs.Gives.{Gives, read_behind, read_given};
+ghost use Rattle.token_reader.specs.Gives.{Gives, boxed_tree, read_behind, read_given};
 ghost use Rattle.token_reader.specs.Levels.{read_first, read_operand, read_links_at, read_chain_at};
 
 use algolw_tree::{
@@ -14,21 +14,42 @@ use token_reader::{Level, Parser, Stop, inside, make};
 /// `[ phrase ]`
 #[cycle(phrases)]
 #[tactic(auto, unfolding(algolw_grammar::specs::Reading::read_perhaps))]
-pub fn perhaps(parser: &mut Parser<'_>, room: u32) -> Result<Phrase, Stop>
-    ensures { Gives tree result parser.new.rest.now (read_perhaps (readers room) parser.old.rest.now) }
+pub fn perhaps(parser: &mut Parser<'_>, room: u32) -> Result<Box<Phrase>, Stop>
+    ensures { Gives boxed_tree result parser.new.rest.now (read_perhaps (readers room) parser.old.rest.now) }
 {
     if parser.at_phrase() {
         phrase(parser, room)
+    } else {
+        Ok(Box::new(parser.alloc, parser.empty()?)?)
+    }
+}
+
+/// `[ phrase ]`, as it stands in a row.
+#[cycle(phrases)]
+#[tactic(auto, unfolding(algolw_grammar::specs::Reading::read_perhaps))]
+fn part(parser: &mut Parser<'_>, room: u32) -> Result<Phrase, Stop>
+    ensures { Gives tree result parser.new.rest.now (read_perhaps (readers room) parser.old.rest.now) }
+{
+    if parser.at_phrase() {
+        unboxed(parser, room)
     } else {
         parser.empty()
     }
 }
 
+/// `phrase`, as it stands in a row.
+#[cycle(phrases)]
+fn unboxed(parser: &mut Parser<'_>, room: u32) -> Result<Phrase, Stop>
+    ensures { Gives tree result parser.new.rest.now ((readers room).phrase parser.old.rest.now) }
+{
+    Ok(Box::into_inner(phrase(parser, room)?))
+}
+
 /// `phrase`, where so many levels of nesting are left.
 #[cycle(phrases)]
 #[tactic(auto, unfolding(algolw_grammar::specs::Reading::readers, algolw_grammar::specs::Reading::read_phrase))]
-pub fn phrase(parser: &mut Parser<'_>, room: u32) -> Result<Phrase, Stop>
-    ensures { Gives tree result parser.new.rest.now ((readers room).phrase parser.old.rest.now) }
+pub fn phrase(parser: &mut Parser<'_>, room: u32) -> Result<Box<Phrase>, Stop>
+    ensures { Gives boxed_tree result parser.new.rest.now ((readers room).phrase parser.old.rest.now) }
 {
     let Some(room) = inside(room) else {
         return Err(parser.beyond());
@@ -42,7 +63,7 @@ pub fn phrase(parser: &mut Parser<'_>, room: u32) -> Result<Phrase, Stop>
     } else if parser.at_word(Word::While) {
         repetition(parser, room)
     } else if parser.at_goto() {
-        parser.jump()
+        Ok(Box::new(parser.alloc, parser.jump()?)?)
     } else if parser.at_word(Word::Assert) {
         assertion(parser, room)
     } else {
@@ -53,42 +74,48 @@ pub fn phrase(parser: &mut Parser<'_>, room: u32) -> Result<Phrase, Stop>
 /// `IF phrase THEN [ phrase ] [ ELSE [ phrase ] ]`
 #[cycle(phrases)]
 #[tactic(auto, unfolding(algolw_grammar::specs::Reading::read_if))]
-fn conditional(parser: &mut Parser<'_>, room: u32) -> Result<Phrase, Stop>
-    ensures { Gives tree result parser.new.rest.now (read_if (readers room) parser.old.rest.now) }
+fn conditional(parser: &mut Parser<'_>, room: u32) -> Result<Box<Phrase>, Stop>
+    ensures { Gives boxed_tree result parser.new.rest.now (read_if (readers room) parser.old.rest.now) }
 {
     let place = parser.expect_word(Word::If)?;
-    let condition = Box::new(parser.alloc, phrase(parser, room)?)?;
+    let condition = phrase(parser, room)?;
     parser.expect_word(Word::Then)?;
-    let then = Box::new(parser.alloc, perhaps(parser, room)?)?;
+    let then = perhaps(parser, room)?;
     if !parser.at_else() {
-        return Ok(make::at(place, Kind::IfThen(condition, then, None)));
+        return Ok(Box::new(
+            parser.alloc,
+            make::at(place, Kind::IfThen(condition, then, None)),
+        )?);
     }
     parser.expect_word(Word::Else)?;
-    let otherwise = Box::new(parser.alloc, perhaps(parser, room)?)?;
-    Ok(make::at(place, Kind::IfThen(condition, then, Some(otherwise))))
+    let otherwise = perhaps(parser, room)?;
+    Ok(Box::new(
+        parser.alloc,
+        make::at(place, Kind::IfThen(condition, then, Some(otherwise))),
+    )?)
 }
 
 /// `CASE phrase OF ( "(" phrase { "," phrase } ")" | BEGIN [ phrase ] { ";" [ phrase ] } END )`
 #[cycle(phrases)]
 #[tactic(auto, unfolding(algolw_grammar::specs::Reading::read_case, algolw_grammar::specs::Reading::read_case_end))]
-fn selection(parser: &mut Parser<'_>, room: u32) -> Result<Phrase, Stop>
-    ensures { Gives tree result parser.new.rest.now (read_case (readers room) parser.old.rest.now) }
+fn selection(parser: &mut Parser<'_>, room: u32) -> Result<Box<Phrase>, Stop>
+    ensures { Gives boxed_tree result parser.new.rest.now (read_case (readers room) parser.old.rest.now) }
 {
     let place = parser.expect_word(Word::Case)?;
-    let subject = Box::new(parser.alloc, phrase(parser, room)?)?;
+    let subject = phrase(parser, room)?;
     parser.expect_word(Word::Of)?;
     if parser.at_symbol(Symbol::Open) {
         parser.expect_symbol(Symbol::Open)?;
-        let first = phrase(parser, room)?;
+        let first = unboxed(parser, room)?;
         let values = later_phrases(parser, first, room)?;
         parser.expect_symbol(Symbol::Close)?;
-        Ok(make::case_value(place, subject, values))
+        Ok(Box::new(parser.alloc, make::case_value(place, subject, values))?)
     } else {
         parser.expect_word(Word::Begin)?;
-        let first = perhaps(parser, room)?;
+        let first = part(parser, room)?;
         let parts = later_parts(parser, first, room)?;
         parser.expect_word(Word::End)?;
-        Ok(make::case_do(place, subject, parts))
+        Ok(Box::new(parser.alloc, make::case_do(place, subject, parts))?)
     }
 }
 
@@ -102,7 +129,7 @@ fn later_phrases(parser: &mut Parser<'_>, first: Phrase, room: u32) -> Result<Ve
     phrases.push(first)?;
     'turns: while parser.at_symbol(Symbol::Comma) {
         parser.expect_symbol(Symbol::Comma)?;
-        let one = phrase(parser, room)?;
+        let one = unboxed(parser, room)?;
         phrases.push(one)?;
     }
     Ok(phrases)
@@ -118,7 +145,7 @@ fn later_parts(parser: &mut Parser<'_>, first: Phrase, room: u32) -> Result<Vec<
     parts.push(first)?;
     'turns: while parser.at_symbol(Symbol::Semicolon) {
         parser.expect_symbol(Symbol::Semicolon)?;
-        let one = perhaps(parser, room)?;
+        let one = part(parser, room)?;
         parts.push(one)?;
     }
     Ok(parts)
@@ -127,89 +154,92 @@ fn later_parts(parser: &mut Parser<'_>, first: Phrase, room: u32) -> Result<Vec<
 /// `FOR name ":=" phrase ( [ STEP phrase ] UNTIL phrase | { "," phrase } ) DO [ phrase ]`
 #[cycle(phrases)]
 #[tactic(auto, unfolding(algolw_grammar::specs::Reading::read_for, algolw_grammar::specs::Reading::read_for_end))]
-fn iteration(parser: &mut Parser<'_>, room: u32) -> Result<Phrase, Stop>
-    ensures { Gives tree result parser.new.rest.now (read_for (readers room) parser.old.rest.now) }
+fn iteration(parser: &mut Parser<'_>, room: u32) -> Result<Box<Phrase>, Stop>
+    ensures { Gives boxed_tree result parser.new.rest.now (read_for (readers room) parser.old.rest.now) }
 {
     let place = parser.expect_word(Word::For)?;
     let control = parser.expect_name()?;
     parser.expect_symbol(Symbol::Becomes)?;
-    let start = phrase(parser, room)?;
+    let start = unboxed(parser, room)?;
     if parser.at_values() {
         let values = later_phrases(parser, start, room)?;
         parser.expect_word(Word::Do)?;
-        let body = Box::new(parser.alloc, perhaps(parser, room)?)?;
-        return Ok(make::for_list(place, control.0, values, body));
+        let body = perhaps(parser, room)?;
+        return Ok(Box::new(parser.alloc, make::for_list(place, control.0, values, body))?);
     }
     let start = Box::new(parser.alloc, start)?;
     if parser.at_word(Word::Step) {
         parser.expect_word(Word::Step)?;
-        let step = Box::new(parser.alloc, phrase(parser, room)?)?;
+        let step = phrase(parser, room)?;
         parser.expect_word(Word::Until)?;
-        let limit = Box::new(parser.alloc, phrase(parser, room)?)?;
+        let limit = phrase(parser, room)?;
         parser.expect_word(Word::Do)?;
-        let body = Box::new(parser.alloc, perhaps(parser, room)?)?;
+        let body = perhaps(parser, room)?;
         let kind = Kind::ForStep(control.0, start, Some(step), limit, body);
-        Ok(make::at(place, kind))
+        Ok(Box::new(parser.alloc, make::at(place, kind))?)
     } else {
         parser.expect_word(Word::Until)?;
-        let limit = Box::new(parser.alloc, phrase(parser, room)?)?;
+        let limit = phrase(parser, room)?;
         parser.expect_word(Word::Do)?;
-        let body = Box::new(parser.alloc, perhaps(parser, room)?)?;
+        let body = perhaps(parser, room)?;
         let kind = Kind::ForStep(control.0, start, None, limit, body);
-        Ok(make::at(place, kind))
+        Ok(Box::new(parser.alloc, make::at(place, kind))?)
     }
 }
 
 /// `WHILE phrase DO [ phrase ]`
 #[cycle(phrases)]
 #[tactic(auto, unfolding(algolw_grammar::specs::Reading::read_while))]
-fn repetition(parser: &mut Parser<'_>, room: u32) -> Result<Phrase, Stop>
-    ensures { Gives tree result parser.new.rest.now (read_while (readers room) parser.old.rest.now) }
+fn repetition(parser: &mut Parser<'_>, room: u32) -> Result<Box<Phrase>, Stop>
+    ensures { Gives boxed_tree result parser.new.rest.now (read_while (readers room) parser.old.rest.now) }
 {
     let place = parser.expect_word(Word::While)?;
-    let condition = Box::new(parser.alloc, phrase(parser, room)?)?;
+    let condition = phrase(parser, room)?;
     parser.expect_word(Word::Do)?;
-    let body = Box::new(parser.alloc, perhaps(parser, room)?)?;
-    Ok(make::at(place, Kind::WhileDo(condition, body)))
+    let body = perhaps(parser, room)?;
+    Ok(Box::new(
+        parser.alloc,
+        make::at(place, Kind::WhileDo(condition, body)),
+    )?)
 }
 
 /// `ASSERT phrase`
 #[cycle(phrases)]
 #[tactic(auto, unfolding(algolw_grammar::specs::Reading::read_assert))]
-fn assertion(parser: &mut Parser<'_>, room: u32) -> Result<Phrase, Stop>
-    ensures { Gives tree result parser.new.rest.now (read_assert (readers room) parser.old.rest.now) }
+fn assertion(parser: &mut Parser<'_>, room: u32) -> Result<Box<Phrase>, Stop>
+    ensures { Gives boxed_tree result parser.new.rest.now (read_assert (readers room) parser.old.rest.now) }
 {
     let place = parser.expect_word(Word::Assert)?;
-    let condition = Box::new(parser.alloc, phrase(parser, room)?)?;
-    Ok(make::at(place, Kind::Assert(condition)))
+    let condition = phrase(parser, room)?;
+    Ok(Box::new(parser.alloc, make::at(place, Kind::Assert(condition)))?)
 }
 
 /// `disj [ ":=" phrase ]`
 #[cycle(phrases)]
 #[tactic(auto, unfolding(algolw_grammar::specs::Reading::read_assignment, algolw_grammar::specs::Reading::read_assign_end, algolw_grammar::specs::Reading::read_disj))]
-fn assignment(parser: &mut Parser<'_>, room: u32) -> Result<Phrase, Stop>
-    ensures { Gives tree result parser.new.rest.now (read_assignment (readers room) parser.old.rest.now) }
+fn assignment(parser: &mut Parser<'_>, room: u32) -> Result<Box<Phrase>, Stop>
+    ensures { Gives boxed_tree result parser.new.rest.now (read_assignment (readers room) parser.old.rest.now) }
 {
     let left = chain(parser, Level::Or, room)?;
     if !parser.at_symbol(Symbol::Becomes) {
         return Ok(left);
     }
     let place = parser.expect_symbol(Symbol::Becomes)?;
-    let right = Box::new(parser.alloc, phrase(parser, room)?)?;
+    let right = phrase(parser, room)?;
     let first = left.first;
-    Ok(Phrase {
-        place,
-        first,
-        kind: Kind::Assign(Box::new(parser.alloc, left)?, right),
-    })
+    let kind = Kind::Assign(left, right);
+    Ok(Box::new(parser.alloc, Phrase { place, first, kind })?)
 }
 
 /// Operands of a level with operators between them, of which the first of a sum may have a sign.
 #[cycle(phrases)]
-fn chain(parser: &mut Parser<'_>, level: Level, room: u32) -> Result<Phrase, Stop>
-    ensures { Gives tree result parser.new.rest.now (read_chain_at level (readers room) parser.old.rest.now) }
+fn chain(parser: &mut Parser<'_>, level: Level, room: u32) -> Result<Box<Phrase>, Stop>
+    ensures { Gives boxed_tree result parser.new.rest.now (read_chain_at level (readers room) parser.old.rest.now) }
 {
     let first = first_operand(parser, level, room)?;
+    if !parser.at_operator(level) {
+        return Ok(first);
+    }
     let links = links(parser, level, room)?;
     Ok(make::chained(parser.alloc, first, links)?)
 }
@@ -217,17 +247,17 @@ fn chain(parser: &mut Parser<'_>, level: Level, room: u32) -> Result<Phrase, Sto
 /// The first operand of a level.
 #[cycle(phrases)]
 #[tactic(auto, unfolding(algolw_grammar::specs::Reading::read_signed))]
-fn first_operand(parser: &mut Parser<'_>, level: Level, room: u32) -> Result<Phrase, Stop>
-    ensures { Gives tree result parser.new.rest.now (read_first level (readers room) parser.old.rest.now) }
+fn first_operand(parser: &mut Parser<'_>, level: Level, room: u32) -> Result<Box<Phrase>, Stop>
+    ensures { Gives boxed_tree result parser.new.rest.now (read_first level (readers room) parser.old.rest.now) }
 {
     if level == Level::Sum && parser.at_symbol(Symbol::Plus) {
         let place = parser.expect_symbol(Symbol::Plus)?;
-        let term = Box::new(parser.alloc, operand(parser, level, room)?)?;
-        Ok(make::at(place, Kind::Signed(false, term)))
+        let term = operand(parser, level, room)?;
+        Ok(Box::new(parser.alloc, make::at(place, Kind::Signed(false, term)))?)
     } else if level == Level::Sum && parser.at_symbol(Symbol::Minus) {
         let place = parser.expect_symbol(Symbol::Minus)?;
-        let term = Box::new(parser.alloc, operand(parser, level, room)?)?;
-        Ok(make::at(place, Kind::Signed(true, term)))
+        let term = operand(parser, level, room)?;
+        Ok(Box::new(parser.alloc, make::at(place, Kind::Signed(true, term)))?)
     } else {
         operand(parser, level, room)
     }
@@ -236,8 +266,8 @@ fn first_operand(parser: &mut Parser<'_>, level: Level, room: u32) -> Result<Phr
 /// An operand of a level, which is what binds more.
 #[cycle(phrases)]
 #[tactic(auto, unfolding(algolw_grammar::specs::Reading::read_conj, algolw_grammar::specs::Reading::read_term, algolw_grammar::specs::Reading::read_shift))]
-fn operand(parser: &mut Parser<'_>, level: Level, room: u32) -> Result<Phrase, Stop>
-    ensures { Gives tree result parser.new.rest.now (read_operand level (readers room) parser.old.rest.now) }
+fn operand(parser: &mut Parser<'_>, level: Level, room: u32) -> Result<Box<Phrase>, Stop>
+    ensures { Gives boxed_tree result parser.new.rest.now (read_operand level (readers room) parser.old.rest.now) }
 {
     match level {
         Level::Or => chain(parser, Level::And, room),
@@ -258,7 +288,7 @@ fn links(parser: &mut Parser<'_>, level: Level, room: u32) -> Result<Vec<Link>, 
     'turns: while parser.at_operator(level) {
         let (op, place) = parser.operator(level)?;
         let right = operand(parser, level, room)?;
-        links.push(Link { op, place, right })?;
+        links.push(make::link(op, place, right))?;
     }
     Ok(links)
 }
@@ -266,8 +296,8 @@ fn links(parser: &mut Parser<'_>, level: Level, room: u32) -> Result<Vec<Link>, 
 /// `{ "~" } rel`
 #[cycle(phrases)]
 #[tactic(auto, unfolding(algolw_grammar::specs::Reading::readers, algolw_grammar::specs::Reading::read_neg, algolw_grammar::specs::Reading::read_negation))]
-fn negated(parser: &mut Parser<'_>, room: u32) -> Result<Phrase, Stop>
-    ensures { Gives tree result parser.new.rest.now (read_neg (readers room) parser.old.rest.now) }
+fn negated(parser: &mut Parser<'_>, room: u32) -> Result<Box<Phrase>, Stop>
+    ensures { Gives boxed_tree result parser.new.rest.now (read_neg (readers room) parser.old.rest.now) }
 {
     if !parser.at_symbol(Symbol::Not) {
         return relation(parser, room);
@@ -276,28 +306,28 @@ fn negated(parser: &mut Parser<'_>, room: u32) -> Result<Phrase, Stop>
         return Err(parser.too_deep());
     };
     let place = parser.expect_symbol(Symbol::Not)?;
-    let part = Box::new(parser.alloc, negated(parser, room)?)?;
-    Ok(make::at(place, Kind::Negated(part)))
+    let part = negated(parser, room)?;
+    Ok(Box::new(parser.alloc, make::at(place, Kind::Negated(part)))?)
 }
 
 /// `sum [ ( "=" | "~=" | "<" | "<=" | ">" | ">=" ) sum | IS name ]`
 #[cycle(phrases)]
 #[tactic(auto, unfolding(algolw_grammar::specs::Reading::read_rel, algolw_grammar::specs::Reading::read_relation_end, algolw_grammar::specs::Reading::read_sum))]
-fn relation(parser: &mut Parser<'_>, room: u32) -> Result<Phrase, Stop>
-    ensures { Gives tree result parser.new.rest.now (read_rel (readers room) parser.old.rest.now) }
+fn relation(parser: &mut Parser<'_>, room: u32) -> Result<Box<Phrase>, Stop>
+    ensures { Gives boxed_tree result parser.new.rest.now (read_rel (readers room) parser.old.rest.now) }
 {
     let left = chain(parser, Level::Sum, room)?;
     let first = left.first;
     if parser.at_word(Word::Is) {
         let place = parser.expect_word(Word::Is)?;
         let class = parser.expect_name()?;
-        let kind = Kind::IsClass(Box::new(parser.alloc, left)?, class.0, class.1);
-        Ok(Phrase { place, first, kind })
+        let kind = Kind::IsClass(left, class.0, class.1);
+        Ok(Box::new(parser.alloc, Phrase { place, first, kind })?)
     } else if parser.at_comparison() {
         let (op, place) = parser.comparison()?;
-        let right = Box::new(parser.alloc, chain(parser, Level::Sum, room)?)?;
-        let kind = Kind::Relation(op, Box::new(parser.alloc, left)?, right);
-        Ok(Phrase { place, first, kind })
+        let right = chain(parser, Level::Sum, room)?;
+        let kind = Kind::Relation(op, left, right);
+        Ok(Box::new(parser.alloc, Phrase { place, first, kind })?)
     } else {
         Ok(left)
     }
@@ -306,16 +336,16 @@ fn relation(parser: &mut Parser<'_>, room: u32) -> Result<Phrase, Stop>
 /// `ABS prim | "(" phrase ")" | block | name { "(" list ")" } | number | bits | string | TRUE | FALSE | NULL`
 #[cycle(phrases)]
 #[tactic(auto, unfolding(algolw_grammar::specs::Reading::readers, algolw_grammar::specs::Reading::read_prim, algolw_grammar::specs::Reading::read_absolute))]
-fn primary(parser: &mut Parser<'_>, room: u32) -> Result<Phrase, Stop>
-    ensures { Gives tree result parser.new.rest.now (read_prim (readers room) parser.old.rest.now) }
+fn primary(parser: &mut Parser<'_>, room: u32) -> Result<Box<Phrase>, Stop>
+    ensures { Gives boxed_tree result parser.new.rest.now (read_prim (readers room) parser.old.rest.now) }
 {
     if parser.at_word(Word::Abs) {
         let Some(room) = inside(room) else {
             return Err(parser.too_deep());
         };
         let place = parser.expect_word(Word::Abs)?;
-        let part = Box::new(parser.alloc, primary(parser, room)?)?;
-        Ok(make::at(place, Kind::Abs(part)))
+        let part = primary(parser, room)?;
+        Ok(Box::new(parser.alloc, make::at(place, Kind::Abs(part)))?)
     } else if parser.at_symbol(Symbol::Open) {
         parser.expect_symbol(Symbol::Open)?;
         let inner = phrase(parser, room)?;
@@ -326,9 +356,9 @@ fn primary(parser: &mut Parser<'_>, room: u32) -> Result<Phrase, Stop>
     } else if parser.at_name() {
         let name = parser.expect_name()?;
         let lists = lists(parser, room)?;
-        Ok(make::named(name, lists))
+        Ok(Box::new(parser.alloc, make::named(name, lists))?)
     } else {
-        parser.literal()
+        Ok(Box::new(parser.alloc, parser.literal()?)?)
     }
 }
 
@@ -359,7 +389,7 @@ fn listing(parser: &mut Parser<'_>, room: u32) -> Result<List, Stop>
         parser.expect_symbol(Symbol::Close)?;
         return Ok(make::actuals(place, actuals));
     }
-    let first = phrase(parser, room)?;
+    let first = unboxed(parser, room)?;
     if parser.at_symbol(Symbol::Bar) {
         parser.expect_symbol(Symbol::Bar)?;
         let length = parser.expect_number()?;
@@ -400,22 +430,22 @@ fn actual(parser: &mut Parser<'_>, room: u32) -> Result<Actual, Stop>
     if parser.at_symbol(Symbol::Star) {
         Ok(Actual::Star(parser.expect_symbol(Symbol::Star)?))
     } else {
-        Ok(Actual::Phrase(phrase(parser, room)?))
+        Ok(Actual::Phrase(unboxed(parser, room)?))
     }
 }
 
 /// `BEGIN { decl ";" } item { ";" item } END`
 #[cycle(phrases)]
 #[tactic(auto, unfolding(algolw_grammar::specs::Reading::read_block))]
-pub fn block(parser: &mut Parser<'_>, room: u32) -> Result<Phrase, Stop>
-    ensures { Gives tree result parser.new.rest.now (read_block (readers room) parser.old.rest.now) }
+pub fn block(parser: &mut Parser<'_>, room: u32) -> Result<Box<Phrase>, Stop>
+    ensures { Gives boxed_tree result parser.new.rest.now (read_block (readers room) parser.old.rest.now) }
 {
     let place = parser.expect_word(Word::Begin)?;
     let decls = decls(parser, room)?;
     let first = item(parser, room)?;
     let items = later_items(parser, first, room)?;
     parser.expect_word(Word::End)?;
-    Ok(make::block(place, decls, items))
+    Ok(Box::new(parser.alloc, make::block(place, decls, items))?)
 }
 
 /// `{ ";" item }`, behind the first item.
@@ -441,7 +471,7 @@ fn item(parser: &mut Parser<'_>, room: u32) -> Result<Item, Stop>
     ensures { Gives item_tree result parser.new.rest.now (read_item (readers room) parser.old.rest.now) }
 {
     let labels = parser.labels()?;
-    let phrase = perhaps(parser, room)?;
+    let phrase = part(parser, room)?;
     Ok(Item { labels, phrase })
 }
 
@@ -500,7 +530,7 @@ fn procedure(parser: &mut Parser<'_>, spec: Option<TypeSpec>, room: u32) -> Resu
     let name = parser.expect_name()?;
     let formals = parser.formals()?;
     parser.expect_symbol(Symbol::Semicolon)?;
-    let body = Box::new(parser.alloc, perhaps(parser, room)?)?;
+    let body = perhaps(parser, room)?;
     Ok(Decl::Proc(ProcDecl {
         place,
         result: spec,
@@ -532,9 +562,9 @@ fn later_bounds(parser: &mut Parser<'_>, first: Bound, room: u32) -> Result<Vec<
 fn bound(parser: &mut Parser<'_>, room: u32) -> Result<Bound, Stop>
     ensures { Gives bound_tree result parser.new.rest.now (read_bound (readers room) parser.old.rest.now) }
 {
-    let lower = phrase(parser, room)?;
+    let lower = unboxed(parser, room)?;
     let place = parser.expect_symbol(Symbol::Bounds)?;
-    let upper = phrase(parser, room)?;
+    let upper = unboxed(parser, room)?;
     Ok(Bound {
         place,
         lower,

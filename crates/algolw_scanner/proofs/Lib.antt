@@ -21,3 +21,5 @@ pub mod Keeps
 pub mod Meaning
 pub mod Pieces
 pub mod Shown
+mod Spelled
+pub mod Beginnings

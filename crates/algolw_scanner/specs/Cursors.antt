@@ -2,6 +2,7 @@
 use Rattle.std.specs.Prelude.{◌≡◌, ◌==◌, ℕ, ◌+◌, ◌≤◌, List, [], ◌∷◌, ◌++◌, length, Bool, true, not, Option, Some, None}
 use Rattle.std.specs.List.{list_all}
 use Rattle.algolw_tree.specs.Tokens.{text, walk, Separator, OfKind, Reads, ReadsNothing, fault}
+use Rattle.algolw_tree.specs.declared.tokens.TokenKind.{TokenKind}
 use Rattle.algolw_scanner.specs.declared.cursor.Cursor.{Cursor}
 use Rattle.algolw_scanner.specs.declared.cursor.Next.{Next}
 use Rattle.algolw_scanner.specs.declared.cursor.Next.TheVariants.{Token, Skipped, Finished, Fault}
@@ -43,9 +44,9 @@ abbrev pub BehindSemicolon : Cursor → Option Cursor → Type 0
 BehindSemicolon c None = no_semicolon (text_at c) ≡ true
 BehindSemicolon c (Some n) = (u : List ℕ) × (no_semicolon u ≡ true) × Behind c (u ++ 59 ∷ []) n
 
--- the next piece of the text
-abbrev pub IsNext : Cursor → Next → Type 0
-IsNext c (Token k n) = (u : List ℕ) × Reads (text_at c) u (OfKind k) (text_at n) × (n.place ≡ walk c.place u) × Sound n
-IsNext c (Skipped n) = (u : List ℕ) × Reads (text_at c) u Separator (text_at n) × (n.place ≡ walk c.place u) × Sound n
-IsNext c (Finished p) = (u : List ℕ) × Reads (text_at c) u Separator [] × (p ≡ walk c.place u)
-IsNext c (Fault d) = ReadsNothing (text_at c) × (d.number ≡ fault (text_at c)) × (d.place ≡ c.place)
+-- the next piece of the text, where the kind of a token is written down
+abbrev pub IsNext : Cursor → TokenKind → Next → Type 0
+IsNext c k (Token n) = (u : List ℕ) × Reads (text_at c) u (OfKind k) (text_at n) × (n.place ≡ walk c.place u) × Sound n
+IsNext c k (Skipped n) = (u : List ℕ) × Reads (text_at c) u Separator (text_at n) × (n.place ≡ walk c.place u) × Sound n
+IsNext c k (Finished p) = (u : List ℕ) × Reads (text_at c) u Separator [] × (p ≡ walk c.place u)
+IsNext c k (Fault d) = ReadsNothing (text_at c) × (d.number ≡ fault (text_at c)) × (d.place ≡ c.place)

@@ -5,3 +5,4 @@ pub mod Cursors
 pub mod Decks
 pub mod Scans
 pub mod Laws
+pub mod Beginnings

@@ -18,8 +18,8 @@ pub struct Cursor<'a> {
 
 /// The next piece of a deck's text, and where the text goes on.
 pub enum Next<'a> {
-    /// A token.
-    Token(TokenKind, Cursor<'a>),
+    /// A token, whose kind is written down apart.
+    Token(Cursor<'a>),
     /// A blank, a card's end or a comment.
     Skipped(Cursor<'a>),
     /// The end of the deck, which is a token at this place.
@@ -88,10 +88,10 @@ impl<'a> Cursor<'a> {
         }
     }
 
-    /// The next piece of the text.
-    pub fn next_piece(self) -> Next<'a>
+    /// The next piece of the text. Where it is a token, its kind is written down.
+    pub fn next_piece(self, kind: &mut TokenKind) -> Next<'a>
         requires { Sound self }
-        ensures { IsNext self.entry result }
+        ensures { IsNext self.entry kind.new result }
     {
         if self.line.is_empty() {
             return match self.next_card() {
@@ -102,9 +102,9 @@ impl<'a> Cursor<'a> {
                 Some(next) => Next::Skipped(next),
             };
         }
-        match front(self.line) {
+        match front(self.line, kind) {
             Lexeme::Blank(rest) => Next::Skipped(self.past(rest)),
-            Lexeme::Token(kind, rest) => Next::Token(kind, self.past(rest)),
+            Lexeme::Token(rest) => Next::Token(self.past(rest)),
             Lexeme::Fault(number) => Next::Fault(Diagnostic {
                 number,
                 place: self.place,

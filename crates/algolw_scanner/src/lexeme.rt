@@ -8,8 +8,8 @@ ghost use Rattle.algolw_scanner.specs.Front.{bits_at, literal, quoted_at, front,
 ghost use Rattle.algolw_scanner.specs.Seen.{seen};
 
 use crate::words::word;
-use algolw_tree::{Symbol, TokenKind, Word};
-use value_ops::{Diagnostic, Name, Text};
+use algolw_tree::{Literal, Symbol, TokenKind, Word};
+use value_ops::{Diagnostic, Name};
 
 /// The largest number.
 const LARGEST: u64 = 2_147_483_647;
@@ -19,8 +19,8 @@ const MOST_BITS_DIGITS: usize = 8;
 
 /// What stands at the front of a line, and what stands behind it.
 pub enum Lexeme<'a> {
-    /// A token.
-    Token(TokenKind, &'a [u8]),
+    /// A token, whose kind is written down apart.
+    Token(&'a [u8]),
     /// The word that opens a comment.
     Comment(&'a [u8]),
     /// A blank.
@@ -68,16 +68,22 @@ fn folded(spelled: &[u8]) -> Name
 
 /// A name, a word or the beginning of a comment.
 #[tactic(auto, unfolding(crate::specs::Front::name_at))]
-fn name_front(line: &[u8]) -> Lexeme
+fn name_front<'a>(line: &'a [u8], kind: &mut TokenKind) -> Lexeme<'a>
     requires { length line.now ≤ 80 }
-    ensures { seen result ≡ name_at line.now }
+    ensures { seen kind.new result ≡ name_at line.now }
 {
     let (spelled, rest) = line.split_at(name_length(line));
     let name = folded(spelled);
     match word(name.as_slice()) {
-        None => Lexeme::Token(TokenKind::Named(name), rest),
+        None => {
+            *kind = TokenKind::Named(name);
+            Lexeme::Token(rest)
+        }
         Some(Word::Comment) => Lexeme::Comment(rest),
-        Some(word) => Lexeme::Token(TokenKind::Word(word), rest),
+        Some(word) => {
+            *kind = TokenKind::Word(word);
+            Lexeme::Token(rest)
+        }
     }
 }
 
@@ -110,8 +116,8 @@ fn spoils_number(rest: &[u8]) -> bool
 
 /// A number.
 #[tactic(auto, unfolding(crate::specs::Front::number_at), using(crate::proofs::Runs::run_all))]
-fn number_front(line: &[u8]) -> Lexeme
-    ensures { seen result ≡ number_at line.now }
+fn number_front<'a>(line: &'a [u8], kind: &mut TokenKind) -> Lexeme<'a>
+    ensures { seen kind.new result ≡ number_at line.now }
 {
     let (digits, rest) = line.split_at(digits_length(line));
     if spoils_number(rest) {
@@ -119,7 +125,10 @@ fn number_front(line: &[u8]) -> Lexeme
     }
     match value(digits) {
         None => Lexeme::Fault(Diagnostic::INTEGER_TOO_LARGE),
-        Some(n) => Lexeme::Token(TokenKind::Number(n), rest),
+        Some(n) => {
+            *kind = TokenKind::Number(n);
+            Lexeme::Token(rest)
+        }
     }
 }
 
@@ -164,29 +173,33 @@ fn long_symbol(c: u8, d: u8) -> Option<Symbol>
 
 /// A symbol, the longest that fits.
 #[tactic(auto, unfolding(crate::specs::Front::symbol_at))]
-fn symbol_front(line: &[u8]) -> Lexeme
-    ensures { seen result ≡ symbol_at line.now }
+fn symbol_front<'a>(line: &'a [u8], kind: &mut TokenKind) -> Lexeme<'a>
+    ensures { seen kind.new result ≡ symbol_at line.now }
 {
     if let [c, d, rest @ ..] = line {
         if let Some(symbol) = long_symbol(*c, *d) {
-            return Lexeme::Token(TokenKind::Symbol(symbol), rest);
+            *kind = TokenKind::Symbol(symbol);
+            return Lexeme::Token(rest);
         }
     }
     match line {
         [] => Lexeme::Fault(Diagnostic::CHARACTER_NOT_USED),
         [c, rest @ ..] => match short_symbol(*c) {
-            Some(symbol) => Lexeme::Token(TokenKind::Symbol(symbol), rest),
+            Some(symbol) => {
+                *kind = TokenKind::Symbol(symbol);
+                Lexeme::Token(rest)
+            }
             None => Lexeme::Fault(Diagnostic::CHARACTER_NOT_USED),
         },
     }
 }
 
 /// What a literal says, and what stands behind it: the longest that is closed, from behind its first quote on.
-fn literal(line: &[u8]) -> Option<(Text, &[u8])>
+fn literal(line: &[u8]) -> Option<(Literal, &[u8])>
     requires { length line.now ≤ 80 }
     ensures { option_map (λ x. (x.0, x.1.now)) result ≡ literal line.now }
 {
-    let mut said = Text::new();
+    let mut said = Literal::new();
     let mut closed = None;
     let mut rest = line;
     while let [c, later @ ..] = rest {
@@ -209,9 +222,9 @@ fn literal(line: &[u8]) -> Option<(Text, &[u8])>
 
 /// A literal.
 #[tactic(auto, unfolding(crate::specs::Front::quoted_at))]
-fn quoted_front(line: &[u8]) -> Lexeme
+fn quoted_front<'a>(line: &'a [u8], kind: &mut TokenKind) -> Lexeme<'a>
     requires { length line.now ≤ 80 }
-    ensures { seen result ≡ quoted_at line.now }
+    ensures { seen kind.new result ≡ quoted_at line.now }
 {
     let [_, inner @ ..] = line else {
         return Lexeme::Fault(Diagnostic::STRING_NOT_CLOSED);
@@ -223,7 +236,10 @@ fn quoted_front(line: &[u8]) -> Lexeme
                 [b'"', ..] => Lexeme::Fault(Diagnostic::STRING_NOT_CLOSED),
                 _ => Lexeme::Fault(Diagnostic::STRING_EMPTY),
             },
-            _ => Lexeme::Token(TokenKind::Quoted(said), rest),
+            _ => {
+                *kind = TokenKind::Quoted(said);
+                Lexeme::Token(rest)
+            }
         },
     }
 }
@@ -273,39 +289,40 @@ fn are_hex(digits: &[u8]) -> bool
 
 /// Bits.
 #[tactic(auto, unfolding(crate::specs::Front::bits_at))]
-fn bits_front(line: &[u8]) -> Lexeme
-    ensures { seen result ≡ bits_at line.now }
+fn bits_front<'a>(line: &'a [u8], kind: &mut TokenKind) -> Lexeme<'a>
+    ensures { seen kind.new result ≡ bits_at line.now }
 {
     let [_, inner @ ..] = line else {
         return Lexeme::Fault(Diagnostic::BITS_ILL_FORMED);
     };
     let (digits, rest) = inner.split_at(alphanumeric_length(inner));
     if 0 < digits.len() && digits.len() <= MOST_BITS_DIGITS && are_hex(digits) {
-        Lexeme::Token(TokenKind::BitsLit(hex_value(digits)), rest)
+        *kind = TokenKind::BitsLit(hex_value(digits));
+        Lexeme::Token(rest)
     } else {
         Lexeme::Fault(Diagnostic::BITS_ILL_FORMED)
     }
 }
 
-/// What stands at the front of a line.
-pub fn front(line: &[u8]) -> Lexeme
+/// What stands at the front of a line. Where it is a token, its kind is written down.
+pub fn front<'a>(line: &'a [u8], kind: &mut TokenKind) -> Lexeme<'a>
     requires { length line.now ≤ 80 }
-    ensures { seen result ≡ front line.now }
+    ensures { seen kind.new result ≡ front line.now }
 {
     match line {
         [] => Lexeme::Fault(Diagnostic::CHARACTER_NOT_USED),
         [b' ', rest @ ..] => Lexeme::Blank(rest),
         [c, ..] => {
             if c.is_ascii_alphabetic() {
-                name_front(line)
+                name_front(line, kind)
             } else if c.is_ascii_digit() {
-                number_front(line)
+                number_front(line, kind)
             } else if *c == b'"' {
-                quoted_front(line)
+                quoted_front(line, kind)
             } else if *c == b'#' {
-                bits_front(line)
+                bits_front(line, kind)
             } else {
-                symbol_front(line)
+                symbol_front(line, kind)
             }
         }
     }

@@ -14,6 +14,9 @@ use algolw_tree::{Token, TokenKind, Word};
 use std::alloc::{AllocError, Global};
 use value_ops::{Card, Diagnostic, Place};
 
+/// For how many tokens there is room from the first on.
+const FEW_TOKENS: usize = 64;
+
 /// What scanning a deck gives.
 #[derive(Drop)]
 pub enum Scanned {
@@ -52,12 +55,13 @@ fn tokens_from(alloc: Global, start: Cursor) -> Result<Scanned, AllocError>
     requires { Sound start }
     ensures { IfOk result (λ s. Says start.entry.place (text_at start.entry) s) }
 {
-    let mut tokens = Vec::new(alloc);
+    let mut tokens = Vec::with_capacity(alloc, FEW_TOKENS)?;
     let mut after_end = false;
     let mut cursor = start;
     'pieces: loop {
-        match cursor.next_piece() {
-            Next::Token(kind, next) => {
+        let mut kind = TokenKind::Finish;
+        match cursor.next_piece(&mut kind) {
+            Next::Token(next) => {
                 let token = Token {
                     place: cursor.place,
                     kind,

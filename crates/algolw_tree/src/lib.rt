@@ -14,5 +14,5 @@ pub use programs::{
     Gives, NameInfo, Node, NodeKind, Program, Targets, TypedActual, TypedBound, TypedClass,
     TypedDecl, TypedFormal, TypedItem, TypedLink, TypedList, TypedListKind, TypedProc, Use,
 };
-pub use tokens::{Symbol, Token, TokenKind, Word};
+pub use tokens::{Literal, Symbol, Token, TokenKind, Word};
 pub use words::WORDS;

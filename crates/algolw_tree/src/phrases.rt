@@ -1,4 +1,5 @@
-use value_ops::{Name, Place, Text};
+use crate::tokens::Literal;
+use value_ops::{Name, Place};
 
 /// Names, each with its place.
 pub type Names = Vec<(Name, Place)>;
@@ -30,7 +31,7 @@ pub enum Kind {
     /// Bits that are written out.
     BitsLit(u32),
     /// A string that is written out.
-    Quoted(Text),
+    Quoted(Literal),
     /// A name, and the lists in parentheses behind it.
     Named(Name, Vec<List>),
     /// `~` and its operand.

@@ -1,6 +1,7 @@
 use crate::phrases::{Mode, Op, RelOp};
+use crate::tokens::Literal;
 use record_classes::ClassTable;
-use value_ops::{Name, Place, SimpleType, Text};
+use value_ops::{Name, Place, SimpleType};
 
 /// A program without faults: each name in it is tied to its declaration, and each type to what it means.
 #[derive(Drop)]
@@ -83,7 +84,7 @@ pub enum NodeKind {
     /// Bits that are written out.
     BitsLit(u32),
     /// A string that is written out.
-    Quoted(Text),
+    Quoted(Box<Literal>),
     /// A name, and the lists in parentheses behind it.
     Named(u32, Vec<TypedList>),
     /// `~` and its operand.

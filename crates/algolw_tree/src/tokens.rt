@@ -1,4 +1,8 @@
-use value_ops::{Name, Place, Text};
+use short_text::Short;
+use value_ops::{Name, Place};
+
+/// A string that is written out, without its quotes. It stands on one card, so it has at most 80 characters.
+pub type Literal = Short<80>;
 
 /// A word that is no name.
 #[derive(Clone, Copy, Debug, PartialEq, Eq)]
@@ -108,7 +112,7 @@ pub enum TokenKind {
     /// Bits that are written out.
     BitsLit(u32),
     /// A string that is written out, without its quotes.
-    Quoted(Text),
+    Quoted(Literal),
     /// A symbol.
     Symbol(Symbol),
     /// The end of the deck.

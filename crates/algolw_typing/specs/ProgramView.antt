@@ -79,7 +79,7 @@ abbrev mutual
   kind_view ns (Number n) = typed.Number n
   kind_view ns (Truth b) = typed.Truth b
   kind_view ns (BitsLit b) = typed.BitsLit b
-  kind_view ns (Quoted t) = typed.Quoted t
+  kind_view ns (Quoted t) = typed.Quoted t.value
   kind_view ns (Goto n) = typed.Goto (numbered ns.names n)
   kind_view ns (Named' n shape lists) = typed.Named (numbered ns.names n) (lists_view ns lists)
   kind_view ns (Negated' q p f k g s) = typed.Negated (at_view ns p f g s (kind_view ns k))

@@ -1,4 +1,4 @@
-ghost use Rattle.std.specs.Prelude.{◌≡◌, ◌≤◌, ◌⊎◌, ◌+◌, ◌-◌, ◌^◌, ◌++◌, ◌↔◌, ◌∷◌, [], List, Some, IfOk, OnOk, OnErr, IfSome, IsSome, false, true, length, min, map, slice_index};
+ghost use Rattle.std.specs.Prelude.{◌≡◌, ◌≤◌, ◌⊎◌, ◌+◌, ◌-◌, ◌^◌, ◌++◌, ◌↔◌, ◌∷◌, [], List, None, Some, IfOk, OnOk, OnErr, IfSome, IsSome, false, true, length, min, map, slice_index};
 ghost use Rattle.deck_reader.specs.JobView.{JobView};
 ghost use Rattle.account_book.specs.BookView.{openings_of};
 ghost use Rattle.account_book.specs.Charges.{charge};
@@ -57,14 +57,14 @@ impl Audit {
     }
 
     /// The section of the next job, behind those whose sections were made. A result that was brought is used where it
-    /// is for an equal job; otherwise an accepted job is run at the desk. Where memory is wanting, the audit stays as
-    /// it was.
+    /// is for an equal job; otherwise an accepted job is run at the desk, which is made for the first one. Where memory is
+    /// wanting, the audit stays as it was.
     pub fn section(
         &mut self,
         alloc: Global,
         job: &Arc<Job>,
         brought: Option<Brought>,
-        desk: &mut Desk,
+        desk: &mut Option<Desk>,
     ) -> Result<Vec<u8>, AllocError>
         // The section is the one at its place, whatever was brought, and the job has its place behind it.
         ensures text { (earlier : List JobView) → IsBehind self.old.book earlier → IfOk result (λ v.
@@ -128,7 +128,7 @@ impl Audit {
         out: &mut Vec<u8>,
         job: &Arc<Job>,
         brought: Option<Brought>,
-        desk: &mut Desk,
+        desk: &mut Option<Desk>,
     ) -> Result<(), AllocError>
         ensures text { OnOk result (out.new.items ≡ out.old.items
             ++ body (decision (slice_index self.old.book.balances) job.now.value) job.now.value) }
@@ -156,7 +156,7 @@ impl Audit {
             Decision::Accepted(account) => match fitting(brought, job) {
                 Some(ended) => self.push_ended(out, account, &ended),
                 None => {
-                    let ended = run_job(alloc, desk, job)?;
+                    let ended = run_here(alloc, desk, job)?;
                     self.push_ended(out, account, &ended)?;
                     self.reruns = self.reruns.saturating_add(1);
                     Ok(())
@@ -208,6 +208,20 @@ impl Audit {
         self.tally = self.tally.with(entry).ok_or(AllocError)?;
         Ok(())
     }
+}
+
+/// Runs a job without a flaw at a desk, which is made where there is none yet.
+fn run_here(alloc: Global, desk: &mut Option<Desk>, job: &Arc<Job>) -> Result<Ended, AllocError>
+    requires { job.now.value.flaw ≡ None }
+    ensures { IfOk result (λ ended. ended.job ≡ job.now.value) }
+{
+    let mut own = match desk.take() {
+        Some(desk) => desk,
+        None => Desk::new(alloc)?,
+    };
+    let ran = run_job(alloc, &mut own, job);
+    *desk = Some(own);
+    ran
 }
 
 /// What became of a job that has ended so.

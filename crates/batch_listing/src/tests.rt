@@ -94,6 +94,14 @@ fn brought(
     }
 }
 
+/// The steps of the last job that was run at a desk, where there is one.
+fn steps_at(desk: &Option<Desk>) -> u32 {
+    match desk {
+        Some(desk) => desk.steps(),
+        None => 0,
+    }
+}
+
 fn read(alloc: Global, input: &[u8]) -> Result<Batch, FeedError>
     ensures { IfOk result (λ batch. length batch.accounts ≤ 500) }
 {
@@ -117,7 +125,7 @@ fn a_section_is_that_of_its_place_whatever_is_brought(rt: HostRuntime) -> Result
         let stray = batch.stray;
         let jobs = jobs_of(alloc, batch)?;
         let mut audit = Audit::new(book)?;
-        let mut desk = Desk::new(alloc)?;
+        let mut desk = None;
         let mut listing = Vec::from_slice(alloc, heading())?;
         for (place, job) in jobs.iter().enumerate() {
             let brought = brought(alloc, bring, jobs.as_slice(), place)?;
@@ -128,7 +136,7 @@ fn a_section_is_that_of_its_place_whatever_is_brought(rt: HostRuntime) -> Result
         listing.extend_from_slice(closing.as_slice())?;
         assert_eq!(rt; listing.as_slice(), FOUR_LISTING, "{bring:?}");
         assert_eq!(rt; audit.reruns(), reruns, "{bring:?}");
-        assert_eq!(rt; desk.steps(), steps, "{bring:?}");
+        assert_eq!(rt; steps_at(&desk), steps, "{bring:?}");
     }
     Ok(())
 }

@@ -20,8 +20,8 @@ pub(crate) struct Docket {
     alloc: Global,
     pub(crate) intake: Intake,
     pub(crate) audit: Audit,
-    /// Here the audit runs a job for which no worker brings a result.
-    desk: Desk,
+    /// Here the audit runs a job for which no worker brings a result; there is none before the first one.
+    desk: Option<Desk>,
     /// So many jobs have arrived in the office.
     arrived: usize,
     /// Whether no more are to arrive.
@@ -36,14 +36,14 @@ pub(crate) struct Docket {
 
 impl Docket {
     /// A docket before the first section. Each account of the audit's book must still have its opening.
-    pub(crate) fn new(alloc: Global, intake: Intake, audit: Audit, desk: Desk) -> Docket
+    pub(crate) fn new(alloc: Global, intake: Intake, audit: Audit) -> Docket
         ensures { (result.intake ≡ intake) × (result.audit ≡ audit) × (result.written ≡ 0) × (result.halt ≡ None) }
     {
         Docket {
             alloc,
             intake,
             audit,
-            desk,
+            desk: None,
             arrived: 0,
             closed: false,
             written: 0,

@@ -111,12 +111,11 @@ fn write_sections<R: Threads + Wait + Sync, S: Source, K: Sink, G: Gate>(
         book,
         audit,
         mut desks,
-        desk,
         fresh,
     } = opened;
     let desks = desks.as_mut_slice();
     let docket = serve(
-        rt, alloc, src, sink, intake, book, audit, fresh, desks, desk, gate,
+        rt, alloc, src, sink, intake, book, audit, fresh, desks, gate,
     );
     match docket.halt {
         None => Ok(Served {
@@ -134,7 +133,6 @@ struct Opened {
     book: Book,
     audit: Audit,
     desks: Vec<CachePadded<Desk>>,
-    desk: Desk,
     fresh: FreshQueue,
 }
 
@@ -154,7 +152,6 @@ fn open_batch<S: Source>(alloc: Global, src: &mut S, staff: Staff) -> Result<Ope
         audit,
         fresh: FreshQueue::new(alloc, staff.queue())?,
         desks: desks(alloc, staff.workers())?,
-        desk: Desk::new(alloc)?,
     })
 }
 
@@ -169,7 +166,6 @@ fn serve<R: Threads + Wait + Sync, S: Source, K: Sink, G: Gate>(
     audit: Audit,
     fresh: FreshQueue,
     desks: &mut [CachePadded<Desk>],
-    desk: Desk,
     gate: &G,
 ) -> Docket
     requires desks { 1 ≤ length desks.old }
@@ -179,7 +175,7 @@ fn serve<R: Threads + Wait + Sync, S: Source, K: Sink, G: Gate>(
     ensures some { (start : Outside) → HasWritten start (begun (outside (S.left src.old) (S.faults src.old) (K.written sink.old) (K.faults sink.old)) intake audit)
         → IfSome result.halt (λ halt. HasHalted start (outside (S.left src.new) (S.faults src.new) (K.written sink.new) (K.faults sink.new)) halt) }
 {
-    let docket = Docket::new(alloc, intake, audit, desk);
+    let docket = Docket::new(alloc, intake, audit);
     let clerk = Clerk { src, sink, docket };
     let after = run_jobs::<Brand, R, S, K, G>(rt, alloc, fresh, book, desks, gate, clerk);
     after.into_docket()

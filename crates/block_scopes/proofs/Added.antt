@@ -6,14 +6,12 @@ use Rattle.block_scopes.specs.Adding.{Adds}
 use Rattle.block_scopes.specs.declared.resolver.Resolver.{Resolver}
 
 pub adds_nothing : (a : Resolver) → Adds a a nothing
-adds_nothing a = record { names = sym (append-nil _); uses = sym (append-nil _); classes = sym (append-nil _); faults = sym (append-nil _) }
+adds_nothing a = record { names = sym (append-nil _); classes = sym (append-nil _) }
 
 pub adds_and : (a b c : Resolver) (m n : Naming) → Adds a b m → Adds b c n → Adds a c (and m n)
 adds_and a b c m n f g = record {
   names = g.names ∙ ap (λ xs. xs ++ n.names) f.names ∙ append_assoc a.names.items m.names n.names;
-  uses = g.uses ∙ ap (λ xs. xs ++ n.uses) f.uses ∙ append_assoc _ m.uses n.uses;
   classes = g.classes ∙ ap (λ xs. xs ++ n.classes) f.classes ∙ append_assoc _ m.classes n.classes;
-  faults = g.faults ∙ ap (λ xs. xs ++ n.faults) f.faults ∙ append_assoc a.faults.items m.faults n.faults;
 }
 
 -- Where adding this was begun at a, adding the rest at b ends it.

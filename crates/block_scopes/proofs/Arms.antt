@@ -1,15 +1,19 @@
 -- What a kind of phrase adds, by the tree that it is.
-use Rattle.std.proofs.Common.{◌≡◌, List, [], ◌∷◌, ℕ, Result, sym, ap, subst, ◌∙◌, append_assoc}
+use Rattle.std.proofs.Common.{◌≡◌, List, [], ◌∷◌, ℕ, Option, Result, map, refl, sym, ap, subst, ◌∙◌, append_assoc}
 use Rattle.std.specs.Result.{OnOk}
 use Rattle.value_ops.specs.declared.places.Place.{Place}
+use Rattle.std.specs.Option.{option_map}
+use Rattle.algolw_tree.specs.View.{tree, spec_tree, formal_tree, procedure_tree}
+use Rattle.algolw_tree.specs.declared.phrases.ProcDecl.{ProcDecl, ProcDecl', out-ProcDecl}
 use Rattle.algolw_tree.specs.Tree as Tree
 use Rattle.algolw_tree.specs.Tree.{Placed}
-use Rattle.algolw_typing.specs.Naming.{Naming, Frame, NamePath, and, naming, kind_naming, perhaps_naming, phrases_naming, decl_naming, declares, inside, scope_of}
+use Rattle.algolw_typing.specs.Naming.{Naming, Frame, NamePath, and, naming, kind_naming, perhaps_naming, phrases_naming, decl_naming, declares, inside, of_procedure, scope_of, formal_names, formal_uses, result_uses}
 use Rattle.block_scopes.specs.declared.resolver.Resolver.{Resolver}
 use Rattle.std.proofs.lemmas.Result.{on_ok_weaker}
 use Rattle.block_scopes.specs.Adding.{Adds}
 use Rattle.block_scopes.proofs.Added.{adds_and}
 use Rattle.block_scopes.specs.Parts.{listing_naming, controlled_naming}
+use Rattle.block_scopes.proofs.Unnamed.{behind, none_of_result, none_of_formals}
 
 pub and_assoc : (a b c : Naming) → and (and a b) c ≡ and a (and b c)
 and_assoc a b c = simp append_assoc
@@ -52,3 +56,21 @@ range_inside b c inner g path x s y e h = subst (λ (i : Frame). Adds b c (and (
 
 pub values_inside : (b c : Resolver) (inner g : Frame) (path : NamePath) (as_ : Tree.Phrases) → inner ≡ g → Adds b c (phrases_naming inner path as_) → Adds b c (phrases_naming g path as_)
 values_inside b c inner g path as_ e h = subst (λ (i : Frame). Adds b c (phrases_naming i path as_)) e h
+
+-- a procedure, of which the types of the result and of the formals declare nothing
+pub procedure_adds : (a b c : Resolver) (f g inner : Frame) (path : NamePath) (result : Option Tree.TypeSpec) (formals : List Tree.Formal) (xs : List Placed) (body : Tree.Phrase)
+    → g ≡ of_procedure f → xs ≡ formal_names formals → inner ≡ inside g xs → Adds a b (declares g xs) → Adds b c (naming inner (scope_of xs ∷ path) body)
+    → let ys = formal_names formals in
+    Adds a c (and (result_uses path result) (and (formal_uses path formals) (and (declares (of_procedure f) ys) (naming (inside (of_procedure f) ys) (scope_of ys ∷ path) body))))
+procedure_adds a b c f g inner path result formals xs body at names within scope phrase =
+    let ys = formal_names formals in
+    let whole = adds_and a b c (declares g xs) (naming inner (scope_of xs ∷ path) body) scope phrase in
+    let inside_it = subst (λ (i : Frame). Adds a c (and (declares g xs) (naming i (scope_of xs ∷ path) body))) within whole in
+    let of_formals = subst (λ (zs : List Placed). Adds a c (and (declares g zs) (naming (inside g zs) (scope_of zs ∷ path) body))) names inside_it in
+    let all = subst (λ (h : Frame). Adds a c (and (declares h ys) (naming (inside h ys) (scope_of ys ∷ path) body))) at of_formals in
+    behind a c (result_uses path result) _ (none_of_result path result) (behind a c (formal_uses path formals) _ (none_of_formals path formals) all)
+
+-- a procedure as a tree
+pub procedure_is : (d : ProcDecl) → procedure_tree d ≡ Tree.Proc (out-ProcDecl d).place (option_map spec_tree (out-ProcDecl d).result) (out-ProcDecl d).name (map formal_tree (out-ProcDecl d).formals.items) (tree (out-ProcDecl d).body.value)
+unfolding out-ProcDecl denote.Hole.Carrier.out
+procedure_is (ProcDecl' place result name formals q p f k) = refl

@@ -4,17 +4,12 @@ use Rattle.algolw_typing.specs.Naming as naming
 use Rattle.algolw_typing.specs.Naming.{Naming}
 use Rattle.block_scopes.specs.ClassView.{class_view}
 use Rattle.block_scopes.specs.declared.frame.Frame.{Frame}
-use Rattle.block_scopes.specs.declared.resolver.FoundUse.{FoundUse}
 use Rattle.block_scopes.specs.declared.resolver.Resolver.{Resolver}
 
 abbrev pub frame_view : Frame → naming.Frame
 frame_view f = record { level = f.level; slot = f.slot }
 
-abbrev pub use_view : FoundUse → naming.Used
-use_view u = record { place = u.place; target = u.target }
-
+-- its names and its record classes
 pub record Adds (old new : Resolver) (n : Naming) : Type 0 where
   pub names : new.names.items ≡ old.names.items ++ n.names
-  pub uses : map use_view new.uses.items ≡ map use_view old.uses.items ++ n.uses
   pub classes : map class_view new.classes.items ≡ map class_view old.classes.items ++ n.classes
-  pub faults : new.faults.items ≡ old.faults.items ++ n.faults

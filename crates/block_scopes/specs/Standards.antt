@@ -1,12 +1,6 @@
--- Names that stand on no card.
-use Rattle.std.specs.Prelude.{ℕ, suc, Bool, true, ◌&&◌, nat_le, List, [], ◌∷◌, length}
+-- Names that are short.
+use Rattle.std.specs.Prelude.{ℕ, Bool, true, ◌&&◌, nat_le, List, [], ◌∷◌, length}
 use denote.Ref.{Bor}
-use Rattle.algolw_tree.specs.Tree.{Placed}
-
--- each on card 0, in the next column
-abbrev pub on_no_card : ℕ → List (Bor (List ℕ)) → List Placed
-on_no_card n [] = []
-on_no_card n (x ∷ xs) = (x.now, record { card = 0; column = n }) ∷ on_no_card (suc n) xs
 
 -- each fits in a name
 abbrev pub all_short : List (Bor (List ℕ)) → Bool

@@ -1,10 +1,9 @@
-//! Which declaration each name of a program means, and what record classes it has.
+//! The names that a program declares, and its record classes.
 #![tactic(auto)]
 
 mod blocks;
 mod classes;
 mod frame;
-mod numbers;
 mod order;
 mod phrases;
 mod resolver;

@@ -1,11 +1,9 @@
 ghost use Rattle.std.specs.Prelude.{◌≡◌, OnOk, map};
 ghost use Rattle.algolw_typing.specs.Faults.{in_order};
 ghost use Rattle.algolw_typing.specs.Programs.{by_place};
-ghost use Rattle.block_scopes.specs.Adding.{use_view};
 ghost use Rattle.block_scopes.specs.ClassView.{class_view};
 
 use crate::classes::FoundClass;
-use crate::resolver::FoundUse;
 use algolw_tree::NameInfo;
 use std::alloc::AllocError;
 use value_ops::Diagnostic;
@@ -15,15 +13,6 @@ pub fn sort_names(names: &mut Vec<NameInfo>) -> Result<(), AllocError>
     ensures { OnOk result (names.new.items ≡ by_place (λ info. info.place) names.old.items) }
 {
     names.sort_by_key(|info| info.place)?;
-    Ok(())
-}
-
-/// Puts uses in order of place.
-pub fn sort_uses(uses: &mut Vec<FoundUse>) -> Result<(), AllocError>
-    ensures { OnOk result (map use_view uses.new.items
-        ≡ by_place (λ found. found.place) (map use_view uses.old.items)) }
-{
-    uses.sort_by_key(|found| found.place)?;
     Ok(())
 }
 

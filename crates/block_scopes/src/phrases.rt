@@ -2,7 +2,7 @@ ghost use Rattle.std.specs.Prelude.{◌≡◌, OnOk, map};
 ghost use Rattle.algolw_tree.specs.Tree as T;
 ghost use Rattle.algolw_tree.specs.Grammar.{phrases_of, links_of, lists_of, actuals_of, items_of, decls_of, bounds_of};
 ghost use Rattle.algolw_tree.specs.View.{tree, link_tree, list_tree, actual_tree, item_tree, decl_tree, bound_tree, optional_tree, procedure_tree};
-ghost use Rattle.algolw_typing.specs.Naming.{and, naming, phrases_naming, perhaps_naming, links_naming, lists_naming, actuals_naming, items_naming, bounds_naming, decls_naming, decl_naming, use_at, inside};
+ghost use Rattle.algolw_typing.specs.Naming.{and, naming, phrases_naming, perhaps_naming, links_naming, lists_naming, actuals_naming, items_naming, bounds_naming, decls_naming, decl_naming, inside};
 ghost use Rattle.block_scopes.specs.Adding.{Adds, frame_view};
 ghost use Rattle.block_scopes.specs.Parts.{listing_naming, actual_naming, block_naming, controlled_naming};
 ghost use Rattle.name_scopes.specs.Paths.{path_view};
@@ -13,7 +13,6 @@ use crate::resolver::Resolver;
 use algolw_tree::{Actual, Bound, Decl, Item, Kind, Link, List, ListKind, Phrase, ProcDecl};
 use name_scopes::{Scope, ScopePath};
 use std::alloc::AllocError;
-use value_ops::{Name, Place};
 
 impl Resolver<'_> {
     /// Resolves a phrase.
@@ -34,14 +33,15 @@ impl Resolver<'_> {
             | Kind::Number(_)
             | Kind::Truth(_)
             | Kind::BitsLit(_)
-            | Kind::Quoted(_) => Ok(()),
-            Kind::Named(name, lists) => self.named(frame, path, name, place, lists),
+            | Kind::Quoted(_)
+            | Kind::Goto(_) => Ok(()),
+            Kind::Named(_, lists) => self.lists(frame, path, lists),
             Kind::Negated(operand) => self.phrase(frame, path, operand),
             Kind::Abs(operand) => self.phrase(frame, path, operand),
             Kind::Signed(_, operand) => self.phrase(frame, path, operand),
             Kind::Chain(first, links) => self.chain(frame, path, first, links),
             Kind::Relation(_, left, right) => self.both(frame, path, left, right),
-            Kind::IsClass(operand, name, at) => self.is_class(frame, path, operand, name, *at),
+            Kind::IsClass(operand, _, _) => self.phrase(frame, path, operand),
             Kind::Assign(left, right) => self.both(frame, path, left, right),
             Kind::IfThen(condition, then, otherwise) => {
                 self.conditional(frame, path, condition, then, otherwise)
@@ -59,29 +59,9 @@ impl Resolver<'_> {
                 self.for_list(frame, path, &scope, values, body)
             }
             Kind::WhileDo(condition, body) => self.both(frame, path, condition, body),
-            Kind::Goto(name) => self.use_name(path, name, place),
             Kind::Assert(condition) => self.phrase(frame, path, condition),
             Kind::Block(decls, items) => self.block(frame, path, decls, items),
         }
-    }
-
-    /// Resolves a name and the lists behind it.
-    #[cycle(phrases)]
-    fn named(
-        &mut self,
-        frame: Frame,
-        path: &ScopePath,
-        name: &Name,
-        place: Place,
-        lists: &[List],
-    ) -> Result<(), AllocError>
-        ensures { OnOk result (Adds self.old self.new
-            (and (use_at (path_view path.now) name.now place)
-            (lists_naming (frame_view frame) (path_view path.now) (lists_of (map list_tree lists.now))))) }
-    {
-        self.use_name(path, name, place)?;
-        self.lists(frame, path, lists)?;
-        Ok(())
     }
 
     /// Resolves two phrases.
@@ -117,25 +97,6 @@ impl Resolver<'_> {
     {
         self.phrase(frame, path, first)?;
         self.links(frame, path, links)?;
-        Ok(())
-    }
-
-    /// Resolves an operand and the name of a class behind it.
-    #[cycle(phrases)]
-    fn is_class(
-        &mut self,
-        frame: Frame,
-        path: &ScopePath,
-        operand: &Phrase,
-        name: &Name,
-        place: Place,
-    ) -> Result<(), AllocError>
-        ensures { OnOk result (Adds self.old self.new
-            (and (naming (frame_view frame) (path_view path.now) (tree operand.now))
-            (use_at (path_view path.now) name.now place))) }
-    {
-        self.phrase(frame, path, operand)?;
-        self.use_name(path, name, place)?;
         Ok(())
     }
 
@@ -397,11 +358,8 @@ impl Resolver<'_> {
             (decl_naming (frame_view frame) (path_view around.now) (path_view path.now) (decl_tree decl.now))) }
     {
         match decl {
-            Decl::Simple(spec, _) => self.spec(path, spec),
-            Decl::Array(spec, _, bounds) => {
-                self.spec(path, spec)?;
-                self.bounds(frame, around, bounds)
-            }
+            Decl::Simple(_, _) => Ok(()),
+            Decl::Array(_, _, bounds) => self.bounds(frame, around, bounds),
             Decl::Proc(procedure) => self.procedure(frame, path, procedure),
             Decl::Class(class) => self.class(path, class),
         }
@@ -418,8 +376,6 @@ impl Resolver<'_> {
         ensures { OnOk result (Adds self.old self.new
             (decl_naming (frame_view frame) (path_view path.now) (path_view path.now) (procedure_tree procedure.now))) }
     {
-        self.perhaps_spec(path, &procedure.result)?;
-        self.formals(path, &procedure.formals)?;
         let scope = formal_scope(self.alloc, &procedure.formals)?;
         let inner = self.declares(frame.of_procedure()?, &scope)?;
         self.phrase(inner, &ScopePath::Inner(&scope, &*path), &procedure.body)?;

@@ -1,47 +1,38 @@
-ghost use Rattle.std.specs.Prelude.{◌≡◌, ◌<◌, IfOk, IsTrue, length};
-ghost use Rattle.algolw_typing.specs.Naming.{standard_names};
-ghost use Rattle.block_scopes.specs.Standards.{on_no_card, all_short};
+ghost use Rattle.std.specs.Prelude.{◌≡◌, ◌++◌, ◌<◌, OnOk, IsTrue, length};
+ghost use Rattle.algolw_typing.specs.Naming.{infos, outermost, standard_names};
+ghost use Rattle.block_scopes.specs.Standards.{all_short};
+ghost use Rattle.name_scopes.specs.Standards.{on_no_card};
 
-use name_scopes::Scope;
-use std::alloc::{AllocError, Global};
+use algolw_tree::NameInfo;
+use name_scopes::STANDARD_NAMES;
+use std::alloc::AllocError;
 use value_ops::{Name, Place};
 
-/// The standard names, which stand on card 0, each in the column of its number here.
-const STANDARD_NAMES: [&[u8]; 12] = [
-    b"ODD",
-    b"BITSTRING",
-    b"NUMBER",
-    b"CODE",
-    b"DECODE",
-    b"READ",
-    b"READON",
-    b"READCARD",
-    b"WRITE",
-    b"WRITEON",
-    b"IOCONTROL",
-    b"MAXINTEGER",
-];
-
-/// The scope around each program.
-pub fn standard_scope(alloc: Global) -> Result<Scope, AllocError>
-    ensures { IfOk result (λ scope. scope ≡ standard_names) }
+/// Notes the standard names, which stand in no procedure, and makes room for as many more.
+pub fn add_standard(found: &mut Vec<NameInfo>) -> Result<(), AllocError>
+    ensures { OnOk result (found.new.items ≡ found.old.items ++ infos outermost standard_names) }
 {
-    scope_on_no_card(alloc, &STANDARD_NAMES)
+    found.reserve(2 * STANDARD_NAMES.len())?;
+    add_on_no_card(found, &STANDARD_NAMES)
 }
 
-/// A scope of names that stand on card 0, each in the column of its number.
-fn scope_on_no_card(alloc: Global, names: &[&[u8]]) -> Result<Scope, AllocError>
+/// Notes names that stand on card 0, each in the column of its number, and in no procedure.
+fn add_on_no_card(found: &mut Vec<NameInfo>, names: &[&[u8]]) -> Result<(), AllocError>
     requires few { length names.now < 255 }
     requires short { IsTrue (all_short names.now) }
-    ensures { IfOk result (λ scope. scope ≡ on_no_card 1 names.now) }
+    ensures { OnOk result (found.new.items ≡ found.old.items ++ infos outermost (on_no_card 1 names.now)) }
 {
-    let mut scope = Scope::new(alloc);
     for (position, name) in names.iter().enumerate() {
         let place = Place {
             card: 0,
             column: position as u8 + 1,
         };
-        scope.declare(Name::from_slice(name), place)?;
+        found.push(NameInfo {
+            name: Name::from_slice(name),
+            place,
+            level: 0,
+            slot: position as u32,
+        })?;
     }
-    Ok(scope)
+    Ok(())
 }

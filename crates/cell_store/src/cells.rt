@@ -1,4 +1,6 @@
-ghost use Rattle.std.specs.Prelude.{◌≡◌};
+ghost use Rattle.std.specs.Prelude.{◌≡◌, ◌≤◌, length, false, is_some, IfSome};
+ghost use Rattle.cell_store.specs.Cells.{text_over};
+ghost use Rattle.value_ops.specs.Strings.{filled};
 
 use crate::descriptor::Descriptor;
 use value_ops::{RecordId, SimpleType, Text};
@@ -161,4 +163,113 @@ impl Wide {
         head: 0,
         link: None,
     });
+
+    /// It becomes the same as another. A string is written over one that is held, with no copy of the room behind it.
+    pub fn copy_from(&mut self, other: &Wide)
+        ensures { self.new ≡ other.now }
+    {
+        match other {
+            Wide::Str(text) => self.set_text(text.as_slice()),
+            Wide::Part(part) => self.set_part(part),
+            _ => self.copy_whole(other),
+        }
+    }
+
+    /// It becomes the same as another, copied with all its room.
+    fn copy_whole(&mut self, other: &Wide)
+        ensures { self.new ≡ other.now }
+    {
+        *self = *other;
+    }
+
+    /// Characters of its string, from a place on, become these. False exactly where it is no string that has so many
+    /// there, and then it stays as it was.
+    pub(crate) fn overwrite(&mut self, from: usize, characters: &[u8]) -> bool
+        ensures answer { result ≡ is_some (text_over from characters.now self.old) }
+        ensures written { IfSome (text_over from characters.now self.old) (λ s. self.new ≡ Wide.Str s) }
+        ensures unchanged { result ≡ false → self.new ≡ self.old }
+    {
+        match self {
+            Wide::Str(text) => {
+                let room = text.len();
+                let has = from <= room && characters.len() <= room - from;
+                if has {
+                    text.overwrite(from, characters);
+                }
+                has
+            }
+            _ => false,
+        }
+    }
+
+    /// It becomes a part of a string variable.
+    pub fn set_part(&mut self, part: &Part)
+        ensures { self.new ≡ Wide.Part part.now }
+    {
+        match self {
+            Wide::Part(own) => *own = *part,
+            _ => *self = Wide::Part(*part),
+        }
+    }
+
+    /// It becomes a string of these characters.
+    pub fn set_text(&mut self, characters: &[u8])
+        requires { length characters.now ≤ 256 }
+        ensures { self.new ≡ Wide.Str characters.now }
+    {
+        self.set_filled(characters, 0);
+    }
+
+    /// It becomes a string of these characters, filled with blanks to a length.
+    #[inline(always)]
+    pub(crate) fn set_filled(&mut self, characters: &[u8], count: u16)
+        requires few { length characters.now ≤ 256 }
+        requires most { count ≤ 256 }
+        ensures { self.new ≡ Wide.Str (filled count characters.now) }
+    {
+        match self {
+            Wide::Str(text) => write_filled(text, characters, count),
+            _ => self.set_anew(characters, count),
+        }
+    }
+
+    /// The same, where it holds no string.
+    fn set_anew(&mut self, characters: &[u8], count: u16)
+        requires few { length characters.now ≤ 256 }
+        requires most { count ≤ 256 }
+        ensures { self.new ≡ Wide.Str (filled count characters.now) }
+    {
+        *self = Wide::Str(Text::new());
+        match self {
+            Wide::Str(text) => write_filled(text, characters, count),
+            _ => unreachable!(),
+        }
+    }
+}
+
+/// A text becomes these characters, filled with blanks to a length.
+#[inline(always)]
+fn write_filled(text: &mut Text, characters: &[u8], count: u16)
+    requires few { length characters.now ≤ 256 }
+    requires most { count ≤ 256 }
+    ensures { text.new ≡ filled count characters.now }
+{
+    write(text, characters);
+    if characters.len() < usize::from(count) {
+        text.extend_with(usize::from(count) - characters.len(), b' ');
+    }
+}
+
+/// A text becomes these characters.
+#[inline(always)]
+fn write(text: &mut Text, characters: &[u8])
+    requires { length characters.now ≤ 256 }
+    ensures { text.new ≡ characters.now }
+{
+    text.truncate(characters.len());
+    let (first, more) = characters.split_at(text.len());
+    text.overwrite(0, first);
+    if !more.is_empty() {
+        text.extend_from_slice(more);
+    }
 }

@@ -1,6 +1,8 @@
-ghost use Rattle.std.specs.Prelude.{◌≡◌, ◌+◌, ◌≤◌, ◌<◌, [], ◌∷◌, ◌++◌, length, take, replicate, max, IfOk, OnErr, OnOk, option_copied, slice_get, slice_set};
+ghost use Rattle.std.specs.Prelude.{◌≡◌, ◌+◌, ◌≤◌, ◌<◌, [], ◌∷◌, ◌++◌, length, take, replicate, max, IfOk, IfSome, OnErr, OnOk, false, is_some, option_copied, slice_get, slice_set, vec_capacity};
 ghost use Rattle.std.specs.Option.{option_and_then};
-ghost use Rattle.cell_store.specs.Cells.{a_word, a_wide, word_in, wide_in, nothing};
+ghost use Rattle.cell_store.specs.Cells.{a_word, a_wide, word_in, wide_in, text_over, nothing};
+ghost use Rattle.cell_store.specs.Held.{beside_at};
+ghost use Rattle.value_ops.specs.Strings.{filled};
 
 use crate::cells::{Slot, Wide, Word};
 use crate::items::{item_at, ref_at};
@@ -12,13 +14,13 @@ use std::marker::Model;
 #[derive(Drop)]
 pub(crate) struct Shelf {
     slots: Vec<Slot>,
-    /// What is too wide for its slot, at the number of its cell.
+    /// What is too wide for its slot, at the number of its cell; made as far as it was needed.
     beside: Vec<Wide>,
     room: u32,
 }
 
 impl Model for Shelf {
-    ghost use Rattle.std.specs.Prelude.{length, vec_capacity};
+    ghost use Rattle.std.specs.Prelude.{vec_capacity};
     ghost use Rattle.cell_store.specs.Cells.{Shelf as ShelfView};
 
     ghost Value = { ShelfView };
@@ -27,7 +29,7 @@ impl Model for Shelf {
 
     ghost view = { λ s. record { cells = cells s.slots.items s.beside.items; room = s.room } };
 
-    ghost invariant = { λ s. Shelved (length s.slots.items) s.room (vec_capacity s.slots) (length s.beside.items) };
+    ghost invariant = { λ s. Shelved s.slots.items s.beside.items s.room (vec_capacity s.slots) (vec_capacity s.beside) };
 }
 
 impl Shelf {
@@ -43,7 +45,7 @@ impl Shelf {
     }
 
     /// Makes room for as many cells, where there isn't more.
-    #[tactic(auto, using(crate::proofs::CellLines::length_cells, crate::proofs::CellLines::cells_widened))]
+    #[tactic(auto, using(crate::proofs::CellLines::length_cells))]
     pub fn make_room(&mut self, room: u32) -> Result<(), AllocError>
         ensures made { OnOk result (self.new ≡ record self.old { room = max self.old.room room }) }
         ensures unchanged { OnErr result (self.new ≡ self.old) }
@@ -51,8 +53,8 @@ impl Shelf {
         if room <= self.room {
             return Ok(());
         }
-        let beside = self.beside.len().max(room as usize);
-        self.beside.resize(beside, Wide::BLANK)?;
+        self.beside
+            .reserve_exact(room as usize - self.beside.len())?;
         self.slots.reserve_exact(room as usize - self.slots.len())?;
         self.room = room;
         Ok(())
@@ -100,7 +102,7 @@ impl Shelf {
 
     /// A cell more, which holds this.
     #[inline(always)]
-    #[tactic(auto, using(crate::proofs::CellLines::length_cells, crate::proofs::CellLines::cells_push))]
+    #[tactic(auto, using(crate::proofs::CellLines::length_cells, crate::proofs::CellLines::cells_push, crate::proofs::CellLines::beside_push))]
     pub fn push(&mut self, held: Word)
         requires { length self.old.cells < self.old.room }
         ensures { self.new ≡ record self.old { cells = self.old.cells ++ a_word held ∷ [] } }
@@ -109,13 +111,14 @@ impl Shelf {
     }
 
     /// A cell more, which holds this.
-    #[tactic(auto, using(crate::proofs::CellLines::length_cells, crate::proofs::CellLines::cells_push_wide, crate::proofs::CellLines::length_set_beside))]
+    #[tactic(auto, using(crate::proofs::CellLines::length_cells, crate::proofs::CellLines::cells_push_wide, crate::proofs::CellLines::beside_push_wide, crate::proofs::CellLines::cells_more, crate::proofs::CellLines::length_set_beside))]
     pub fn push_wide(&mut self, held: &Wide)
         requires { length self.old.cells < self.old.room }
         ensures { self.new ≡ record self.old { cells = self.old.cells ++ a_wide held.now ∷ [] } }
     {
         let at = self.slots.len();
-        self.beside[at] = *held;
+        fill_up(&mut self.beside, at + 1);
+        self.beside[at].copy_from(held);
         self.slots.push_reserved(Slot::Beside);
     }
 
@@ -131,7 +134,7 @@ impl Shelf {
 
     /// The cell of this number holds this from now on.
     #[inline(always)]
-    #[tactic(auto, using(crate::proofs::CellLines::length_cells, crate::proofs::CellLines::cells_set))]
+    #[tactic(auto, using(crate::proofs::CellLines::length_cells, crate::proofs::CellLines::cells_set, crate::proofs::CellLines::beside_set, crate::proofs::CellLines::length_set_slots))]
     pub fn set(&mut self, at: u32, held: Word)
         requires { at < length self.old.cells }
         ensures { self.new ≡ record self.old { cells = slice_set self.old.cells at (a_word held) } }
@@ -140,21 +143,74 @@ impl Shelf {
     }
 
     /// The cell of this number holds this from now on.
-    #[tactic(auto, using(crate::proofs::CellLines::length_cells, crate::proofs::CellLines::cells_set_wide))]
+    #[tactic(auto, using(crate::proofs::CellLines::length_cells, crate::proofs::CellLines::cells_set_wide, crate::proofs::CellLines::beside_set_wide, crate::proofs::CellLines::cells_more, crate::proofs::CellLines::beside_more, crate::proofs::CellLines::length_set_beside, crate::proofs::CellLines::length_set_slots))]
     pub fn set_wide(&mut self, at: u32, held: &Wide)
         requires { at < length self.old.cells }
         ensures { self.new ≡ record self.old { cells = slice_set self.old.cells at (a_wide held.now) } }
     {
-        self.beside[at as usize] = *held;
+        fill_up(&mut self.beside, at as usize + 1);
+        self.beside[at as usize].copy_from(held);
         self.slots[at as usize] = Slot::Beside;
+    }
+
+    /// The cell of this number holds a string of these characters from now on, filled with blanks to a length.
+    #[tactic(auto, using(crate::proofs::CellLines::length_cells, crate::proofs::CellLines::cells_set_wide, crate::proofs::CellLines::beside_set_wide, crate::proofs::CellLines::cells_more, crate::proofs::CellLines::beside_more, crate::proofs::CellLines::length_set_beside, crate::proofs::CellLines::length_set_slots))]
+    pub fn set_text(&mut self, at: u32, characters: &[u8], count: u16)
+        requires there { at < length self.old.cells }
+        requires few { length characters.now ≤ 256 }
+        requires most { count ≤ 256 }
+        ensures { self.new ≡ record self.old { cells = slice_set self.old.cells at (a_wide (Wide.Str (filled count characters.now))) } }
+    {
+        fill_up(&mut self.beside, at as usize + 1);
+        self.beside[at as usize].set_filled(characters, count);
+        self.slots[at as usize] = Slot::Beside;
+    }
+
+    /// Characters of the string in a cell, from a place on, become these. False exactly where the cell holds no string
+    /// that has so many there, and then all stays as it was.
+    #[tactic(auto, using(crate::proofs::CellLines::length_set_beside, crate::proofs::CellLines::there_beside, crate::proofs::CellLines::wide_there, crate::proofs::CellLines::no_wide_there, crate::proofs::CellLines::cells_rewrite, crate::proofs::CellLines::beside_rewrite))]
+    pub fn overwrite(&mut self, at: u32, from: usize, characters: &[u8]) -> bool
+        ensures answer { result ≡ is_some (option_and_then (text_over from characters.now) (option_and_then wide_in (slice_get self.old.cells at))) }
+        ensures written { IfSome (option_and_then (text_over from characters.now) (option_and_then wide_in (slice_get self.old.cells at))) (λ s. self.new ≡ record self.old { cells = slice_set self.old.cells at (a_wide (Wide.Str s)) }) }
+        ensures unchanged { result ≡ false → self.new ≡ self.old }
+    {
+        if !is_beside_at(&self.slots, at as usize) {
+            return false;
+        }
+        self.beside[at as usize].overwrite(from, characters)
     }
 
     /// Gives back all cells but the first so many.
     #[inline(always)]
-    #[tactic(auto, using(crate::proofs::CellLines::length_cells, crate::proofs::CellLines::cells_take))]
+    #[tactic(auto, using(crate::proofs::CellLines::length_cells, crate::proofs::CellLines::cells_take, crate::proofs::CellLines::beside_take))]
     pub fn cut(&mut self, kept: u32)
         ensures { self.new ≡ record self.old { cells = take kept self.old.cells } }
     {
         self.slots.truncate(kept as usize);
+    }
+}
+
+/// Whether what the cell of this number holds stands beside.
+#[inline(always)]
+fn is_beside_at(slots: &[Slot], at: usize) -> bool
+    ensures { result ≡ beside_at slots.now at }
+{
+    match item_at(slots, at) {
+        Some(slot) => slot.is_beside(),
+        None => false,
+    }
+}
+
+/// What stands beside is made as far as so many cells.
+#[inline(always)]
+fn fill_up(beside: &mut Vec<Wide>, count: usize)
+    requires { count ≤ vec_capacity beside.old }
+    ensures kept { take (length beside.old.items) beside.new.items ≡ beside.old.items }
+    ensures long { count ≤ length beside.new.items }
+    ensures most { length beside.new.items ≤ max count (length beside.old.items) }
+    ensures capacity { vec_capacity beside.new ≡ vec_capacity beside.old }
+{
+    for _ in beside.len()..count {
+        beside.push_reserved(Wide::BLANK);
     }
 }

@@ -1,6 +1,7 @@
-ghost use Rattle.std.specs.Prelude.{◌≡◌, ◌≤◌, ◌<◌, ◌+◌, ◌-◌, ℕ, [], ◌∷◌, ◌++◌, Some, None, Ok, Err, IfOk, IfSome, OnOk, OnErr, length, take, max, nat_lt, if◌then◌else◌, option_copied, slice_get, slice_set};
+ghost use Rattle.std.specs.Prelude.{◌≡◌, ◌≤◌, ◌<◌, ◌+◌, ◌-◌, ℕ, [], ◌∷◌, ◌++◌, Some, None, Ok, Err, IfOk, IfSome, OnOk, OnErr, length, take, max, false, is_some, nat_lt, if◌then◌else◌, option_copied, slice_get, slice_set};
 ghost use Rattle.std.specs.Option.{option_and_then};
-ghost use Rattle.cell_store.specs.Cells.{a_word, a_wide, word_in, wide_in, nothing};
+ghost use Rattle.cell_store.specs.Cells.{a_word, a_wide, word_in, wide_in, text_over, nothing};
+ghost use Rattle.value_ops.specs.Strings.{filled};
 ghost use Rattle.cell_store.specs.Stores.{empty, cells_allowed, with_cells, with_cell_at, array_allowed, new_array, array_cells, entered, text_allowed, newest, left, cut_back};
 
 use crate::cells::{Wide, Word};
@@ -208,6 +209,26 @@ impl Store {
         ensures { self.new ≡ with_cell_at at (a_wide held.now) self.old }
     {
         self.cells.set_wide(at, held);
+    }
+
+    /// A live cell holds a string of these characters from now on, filled with blanks to a length.
+    pub fn set_text(&mut self, at: u32, characters: &[u8], count: u16)
+        requires there { at < length self.old.cells }
+        requires few { length characters.now ≤ 256 }
+        requires most { count ≤ 256 }
+        ensures { self.new ≡ with_cell_at at (a_wide (Wide.Str (filled count characters.now))) self.old }
+    {
+        self.cells.set_text(at, characters, count);
+    }
+
+    /// Characters of the string in a live cell, from a place on, become these. False exactly where the cell holds no
+    /// string that has so many there, and then all stays as it was.
+    pub fn overwrite(&mut self, at: u32, from: usize, characters: &[u8]) -> bool
+        ensures answer { result ≡ is_some (option_and_then (text_over from characters.now) (option_and_then wide_in (slice_get self.old.cells at))) }
+        ensures written { IfSome (option_and_then (text_over from characters.now) (option_and_then wide_in (slice_get self.old.cells at))) (λ s. self.new ≡ with_cell_at at (a_wide (Wide.Str s)) self.old) }
+        ensures unchanged { result ≡ false → self.new ≡ self.old }
+    {
+        self.cells.overwrite(at, from, characters)
     }
 
     /// Gives back all cells but the first so many.

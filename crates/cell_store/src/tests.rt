@@ -17,6 +17,16 @@ set 1 8 0 2
 cell 1 8 2
 put 0 4 0 2
 wide 0 4 2
+text 1 5 0 2
+wide 1 5 2
+over 1 4 0 2
+letter 1 4 32 2
+over 1 3 1 2
+letter 1 3 88 2
+letter 1 4 89 2
+letter 1 0 65 2
+over 0 0 0 2
+over 2 0 0 2
 cell 2 -100 2
 fill 32766 0 32768
 push 1 -3 32768
@@ -154,11 +164,20 @@ fn word_number(word: Option<Word>) -> i32 {
     }
 }
 
-/// Where a part begins, or how many dimensions an array has.
+/// Where a part begins, how many dimensions an array has, or how many characters a string has.
 fn wide_number(wide: Option<&Wide>) -> i32 {
     match wide {
         Some(Wide::Part(part)) => i32::from(part.from),
         Some(Wide::Array(array)) => i32::try_from(array.dimensions().len()).unwrap_or(NONE),
+        Some(Wide::Str(text)) => i32::try_from(text.len()).unwrap_or(NONE),
+        _ => NONE,
+    }
+}
+
+/// The code of a character of a string.
+fn letter(wide: Option<&Wide>, at: usize) -> i32 {
+    match wide {
+        Some(Wide::Str(text)) => text.as_slice().get(at).copied().map_or(NONE, i32::from),
         _ => NONE,
     }
 }
@@ -190,6 +209,12 @@ fn of_cells(store: &mut Store, call: &str, a: i32, b: i32) -> Option<i32> {
         "fill" => Some(fill(store, at)),
         "cell" => Some(word_number(store.cell(at))),
         "wide" => Some(wide_number(store.wide_cell(at))),
+        "text" if at < store.live() => {
+            store.set_text(at, b"AB", u16::try_from(b).unwrap_or(0).min(256));
+            Some(0)
+        }
+        "over" => Some(i32::from(store.overwrite(at, usize::try_from(b).unwrap_or(0), b"XY"))),
+        "letter" => Some(letter(store.wide_cell(at), usize::try_from(b).unwrap_or(0))),
         "set" if at < store.live() => {
             store.set_cell(at, Word::Integer(b));
             Some(0)

@@ -5,7 +5,7 @@ ghost use Rattle.symbol_table.specs.Heres as heres;
 ghost use Rattle.symbol_table.specs.Standings.{source_from};
 ghost use Rattle.code_emitter.specs.Appending.{appended, begun, final_targets, made_into, with_goto, with_name, with_quoted, with_source, with_targets};
 
-use algolw_tree::Gives;
+use algolw_tree::{Gives, Literal};
 use stack_code::{Code, Constant, Instr, Mode};
 use std::alloc::{AllocError, Global};
 use symbol_table::{Here, Standing, Symbols, number};
@@ -156,11 +156,11 @@ impl Emitter {
     }
 
     /// A string that is written out.
-    pub fn quoted(&mut self, here: Here, text: Text) -> Result<u32, AllocError>
+    pub fn quoted(&mut self, here: Here, text: Literal) -> Result<u32, AllocError>
         ensures none { IfOk result (λ m. m ≡ 0) }
         ensures made { OnOk result (self.new ≡ with_quoted self.old here text) }
     {
-        let string = self.code.add_string(text)?;
+        let string = self.code.add_string(Text::from_slice(text.as_slice()))?;
         self.alone(here, Instr::Constant(Constant::Str(string)))
     }
 

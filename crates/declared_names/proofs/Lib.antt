@@ -1,5 +1,4 @@
 pub mod Again
 pub mod Bounding
 pub mod Knowing
-pub mod NoCard
 pub mod Placing

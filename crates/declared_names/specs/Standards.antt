@@ -1,5 +1,5 @@
 -- Standard names, which stand on no card.
-use Rattle.std.specs.Prelude.{ℕ, suc, Bool, true, ◌&&◌, nat_le, List, [], ◌∷◌, length}
+use Rattle.std.specs.Prelude.{ℕ, suc, List, [], ◌∷◌}
 use denote.Ref.{Bor}
 use Rattle.algolw_typing.specs.Names.{Scope}
 use Rattle.algolw_typing.specs.Scopes.{Known, standard_entry}
@@ -10,8 +10,3 @@ use Rattle.typing_rules.specs.declared.meanings.Standard.{Standard}
 abbrev pub standard_entries : ℕ → List (Bor (List ℕ) × Standard) → Scope Known
 standard_entries n [] = []
 standard_entries n (x ∷ xs) = standard_entry x.0.now n (standard x.1) ∷ standard_entries (suc n) xs
-
--- each fits in a name
-abbrev pub all_short : List (Bor (List ℕ) × Standard) → Bool
-all_short [] = true
-all_short (x ∷ xs) = nat_le (length x.0.now) 80 && all_short xs

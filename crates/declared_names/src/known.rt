@@ -8,6 +8,7 @@ ghost use Rattle.declared_names.specs.KnownView.{entry_of};
 ghost use Rattle.declared_names.specs.KnownPaths.{path_view};
 ghost use Rattle.declared_names.specs.Seconds.{second_fault};
 
+use crate::standard::standard_known;
 use name_scopes::Scope;
 use std::alloc::{AllocError, Global};
 use std::marker::Model;
@@ -132,8 +133,8 @@ impl<'a> KnownScope<'a> {
 /// The scopes in which a phrase stands, the innermost first.
 #[derive(Clone, Copy)]
 pub enum KnownPath<'s, 'a> {
-    /// No scope.
-    Outermost,
+    /// The scope of the standard names, which stands around each program.
+    Standard,
     /// A scope, and those around it.
     Inner(&'s KnownScope<'a>, &'s KnownPath<'s, 'a>),
 }
@@ -144,7 +145,7 @@ impl<'s, 'a> KnownPath<'s, 'a> {
         ensures { option_map (entry_of name.now) result ≡ declared (path_view self.now) name.now }
     {
         match self {
-            KnownPath::Outermost => None,
+            KnownPath::Standard => standard_known(name),
             KnownPath::Inner(own, outer) => match own.find(name) {
                 Some(known) => Some(known),
                 None => outer.declared(name),

@@ -13,4 +13,3 @@ pub use blocks::{
 pub use declarations::{class_fault, formal_scope, places, twice};
 pub use known::{Known, KnownPath, KnownScope, meaning_of, place_of};
 pub use procedures::{Head, procedure, procedure_verdict, read_head};
-pub use standard::standard_scope;

@@ -1,9 +1,11 @@
-ghost use Rattle.std.specs.Prelude.{◌≡◌, ◌<◌, IfOk, IsTrue, length};
+ghost use Rattle.std.specs.Prelude.{◌≡◌, ◌<◌, length};
+ghost use Rattle.std.specs.Option.{option_map};
+ghost use Rattle.algolw_typing.specs.Names.{in_scope};
 ghost use Rattle.algolw_typing.specs.Scopes as scopes;
-ghost use Rattle.declared_names.specs.Standards.{all_short, standard_entries};
+ghost use Rattle.declared_names.specs.KnownView.{entry_of};
+ghost use Rattle.declared_names.specs.Standards.{standard_entries};
 
-use crate::known::{Known, KnownScope};
-use std::alloc::{AllocError, Global};
+use crate::known::Known;
 use typing_rules::{Meaning, Reading, Standard};
 use value_ops::{Name, Place};
 
@@ -23,34 +25,30 @@ const STANDARD_NAMES: [(&[u8], Standard); 12] = [
     (b"MAXINTEGER", Standard::MaxInteger),
 ];
 
-/// The scope around each program.
-pub fn standard_scope<'a>(alloc: Global) -> Result<KnownScope<'a>, AllocError>
-    ensures { IfOk result (λ scope. scope ≡ scopes.standard_scope) }
+/// What is known of a standard name, in the scope around each program.
+pub(crate) fn standard_known<'a>(name: &Name) -> Option<Known<'a>>
+    ensures { option_map (entry_of name.now) result ≡ in_scope scopes.standard_scope name.now }
 {
-    scope_on_no_card(alloc, &STANDARD_NAMES)
+    known_on_no_card(&STANDARD_NAMES, name)
 }
 
-/// A scope of standard names that stand on card 0, each in the column of its number.
-fn scope_on_no_card<'a>(
-    alloc: Global,
-    names: &[(&[u8], Standard)],
-) -> Result<KnownScope<'a>, AllocError>
-    requires few { length names.now < 255 }
-    requires short { IsTrue (all_short names.now) }
-    ensures { IfOk result (λ scope. scope ≡ standard_entries 1 names.now) }
+/// What is known of a name among these standard ones, which stand on card 0, each in the column of its number.
+fn known_on_no_card<'a>(names: &[(&[u8], Standard)], name: &Name) -> Option<Known<'a>>
+    requires { length names.now < 255 }
+    ensures { option_map (entry_of name.now) result ≡ in_scope (standard_entries 1 names.now) name.now }
 {
-    let mut scope = KnownScope::new(alloc);
-    for (position, (name, standard)) in names.iter().enumerate() {
-        let known = Known {
-            place: Place {
-                card: 0,
-                column: position as u8 + 1,
-            },
-            is_class: false,
-            reading: Reading::AsPhrases,
-            means: Some(Meaning::Standard(*standard)),
-        };
-        scope.declare(Name::from_slice(name), known)?;
+    for (position, (text, standard)) in names.iter().enumerate() {
+        if *text == name.as_slice() {
+            return Some(Known {
+                place: Place {
+                    card: 0,
+                    column: position as u8 + 1,
+                },
+                is_class: false,
+                reading: Reading::AsPhrases,
+                means: Some(Meaning::Standard(*standard)),
+            });
+        }
     }
-    Ok(scope)
+    None
 }

@@ -18,6 +18,9 @@ use stack_machine::{Desk, Outcome};
 use std::alloc::{AllocError, Global};
 use value_ops::{Card, Diagnostic, Place};
 
+/// For how many bytes of a body there is room at first: for those of most bodies of short decks.
+const ROOM: usize = 256;
+
 /// The body of the section of a job whose deck has these diagnostics.
 pub fn diagnosed_section(
     alloc: Global,
@@ -28,7 +31,7 @@ pub fn diagnosed_section(
     requires { length deck.now ≤ 2000 }
     ensures { IfOk result (λ v. v.items ≡ diagnosed_body deck.now faults.now counts) }
 {
-    let mut out = Vec::new(alloc);
+    let mut out = Vec::with_capacity(alloc, ROOM)?;
     push_source(&mut out, deck)?;
     push_diagnostics(&mut out, faults)?;
     text::push_sum_line(&mut out, counts)?;
@@ -60,7 +63,7 @@ pub fn run_section(
     ensures { IfOk result (λ v. v.items ≡ sections.section job.now code.now begun outcome (shown_by desk.now)) }
 {
     let firsts = first_statements(alloc, code, desk, job.deck.len())?;
-    let mut out = Vec::new(alloc);
+    let mut out = Vec::with_capacity(alloc, ROOM)?;
     push_counted_source(&mut out, job.deck.as_slice(), firsts.as_slice())?;
     text::push_line(&mut out, b"OUTPUT")?;
     push_printed(&mut out, desk)?;

@@ -4,6 +4,7 @@ pub mod Shown
 pub mod Steady
 pub mod Tops
 pub mod Operands
+pub mod Orders
 pub mod Reading
 pub mod Recorded
 pub mod Parted

@@ -1,4 +1,4 @@
-ghost use Rattle.std.specs.Prelude.{◌≡◌, ◌<◌, ℕ, List, length, Ok, Some, IsSome, OnErr, slice_get};
+ghost use Rattle.std.specs.Prelude.{◌≡◌, ◌<◌, ◌≤◌, ℕ, List, length, Ok, Some, IsSome, OnErr, slice_get};
 ghost use Rattle.stack_code.specs.declared.instructions.Instr.TheVariants as instr;
 ghost use Rattle.cell_store.specs.declared.cells.Wide.{Wide};
 ghost use Rattle.program_meaning.specs.Operations as operations;
@@ -7,6 +7,8 @@ ghost use Rattle.machine_rows.specs.Answers.{IsAnswered, answered, unary_of, bin
 ghost use Rattle.machine_rows.specs.Contents.{string_of, string_in};
 ghost use Rattle.machine_rows.specs.Kinds.{WideFits};
 ghost use Rattle.stack_code.specs.CodeView.{Given, unary_view};
+ghost use Rattle.short_text.specs.Blanks.{blanks};
+ghost use Rattle.short_text.specs.Order.{bytes_cmp};
 ghost use Rattle.value_ops.specs.Strings.{compared};
 ghost use Rattle.machine_rows.specs.Seen.{Seen, Stands, Comes, machine_of, row_of, IsClear};
 
@@ -18,8 +20,8 @@ use cell_store::{Wide, Word};
 use stack_code::UnaryOp;
 use std::cmp::Ordering;
 use value_ops::{
-    ClassId, Fault, Text, Value, abs, add, and, bitstring, code, compare, decode, div, mul, negate,
-    not, number, odd, or, rem, shift, sub,
+    ClassId, Fault, Text, Value, abs, add, and, bitstring, code, decode, div, mul, negate, not,
+    number, odd, or, rem, shift, sub,
 };
 
 /// An integer or a fault.
@@ -288,9 +290,60 @@ fn strings_compared(state: &State, cell: u32) -> Ordering
     ensures { (a b : List ℕ) → string_in (slice_get state.now.store.cells cell) ≡ Some a → string_of state.now.wide ≡ Some b → result ≡ compared a b }
 {
     match (state.store.wide_cell(cell), &state.wide) {
-        (Some(Wide::Str(left)), Wide::Str(right)) => compare(left, right),
+        (Some(Wide::Str(left)), Wide::Str(right)) => texts_compared(left, right),
         _ => unreachable!(),
     }
+}
+
+/// How a string stands to another, the shorter one filled with blanks.
+fn texts_compared(left: &Text, right: &Text) -> Ordering
+    ensures { result ≡ compared left.now right.now }
+{
+    if left.len() < right.len() {
+        compared_to_longer(left.as_slice(), right.as_slice())
+    } else if right.len() < left.len() {
+        compared_to_shorter(left.as_slice(), right.as_slice())
+    } else {
+        left.as_slice().cmp(right.as_slice())
+    }
+}
+
+/// How characters stand to more of them, filled with blanks.
+fn compared_to_longer(short: &[u8], long: &[u8]) -> Ordering
+    requires shorter { length short.now ≤ length long.now }
+    requires most { length long.now ≤ 256 }
+    ensures { result ≡ compared short.now long.now }
+{
+    let (first, rest) = long.split_at(short.len());
+    short.cmp(first).then(blanks_compared(rest))
+}
+
+/// How characters stand to fewer of them, filled with blanks.
+fn compared_to_shorter(long: &[u8], short: &[u8]) -> Ordering
+    requires shorter { length short.now ≤ length long.now }
+    requires most { length long.now ≤ 256 }
+    ensures { result ≡ compared long.now short.now }
+{
+    let (first, rest) = long.split_at(short.len());
+    first.cmp(short).then(compared_to_blanks(rest))
+}
+
+/// How as many blanks stand to characters.
+fn blanks_compared(rest: &[u8]) -> Ordering
+    requires { length rest.now ≤ 256 }
+    ensures { result ≡ bytes_cmp (blanks (length rest.now)) rest.now }
+{
+    let blanks = [b' '; 256];
+    blanks[..rest.len()].cmp(rest)
+}
+
+/// How characters stand to as many blanks.
+fn compared_to_blanks(rest: &[u8]) -> Ordering
+    requires { length rest.now ≤ 256 }
+    ensures { result ≡ bytes_cmp rest.now (blanks (length rest.now)) }
+{
+    let blanks = [b' '; 256];
+    rest.cmp(&blanks[..rest.len()])
 }
 
 /// Whether the record that is held is of a class.

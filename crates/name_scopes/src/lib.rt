@@ -3,6 +3,8 @@
 
 mod path;
 mod scope;
+mod standard;
 
 pub use path::ScopePath;
 pub use scope::Scope;
+pub use standard::STANDARD_NAMES;

@@ -4,13 +4,14 @@ ghost use Rattle.algolw_typing.specs.Naming.{place_of};
 ghost use Rattle.name_scopes.specs.Paths.{path_view};
 
 use crate::scope::Scope;
+use crate::standard::standard_place;
 use value_ops::{Name, Place};
 
 /// The scopes in which a phrase stands, the innermost first.
 #[derive(Clone, Copy)]
 pub enum ScopePath<'a> {
-    /// No scope.
-    Outermost,
+    /// The scope of the standard names, which stands around each program.
+    Standard,
     /// A scope, and those around it.
     Inner(&'a Scope, &'a ScopePath<'a>),
 }
@@ -21,7 +22,7 @@ impl ScopePath<'_> {
         ensures { result ≡ place_of (declared (path_view self.now) name.now) }
     {
         match self {
-            ScopePath::Outermost => None,
+            ScopePath::Standard => standard_place(name),
             ScopePath::Inner(own, outer) => match own.declared(name) {
                 Some(place) => Some(place),
                 None => outer.declared(name),

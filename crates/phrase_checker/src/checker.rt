@@ -29,7 +29,7 @@ use bumpalo::collections::into_bump_slice;
 use declared_names::{
     Bounds, KnownPath, KnownScope, array, bound_verdict, class, class_fault, declare,
     declare_labels, formal_scope, names_of_block, no_bounds, procedure, procedure_verdict,
-    read_head, simple, standard_scope, twice,
+    read_head, simple, twice,
 };
 use std::alloc::{AllocError, Global};
 use typed_drafts::{Draft, DraftBound, DraftDecl, DraftKind};
@@ -757,9 +757,7 @@ pub fn check_program<'a>(
         arena,
         faults: Vec::new(alloc),
     };
-    let standard = standard_scope(alloc)?;
-    let path = KnownPath::Inner(&standard, &KnownPath::Outermost);
-    let typed = checker.phrase(&path, phrase)?;
+    let typed = checker.phrase(&KnownPath::Standard, phrase)?;
     checker.note(program_verdict(phrase.place, typed.verdict))?;
     Ok(FoundProgram {
         draft: typed.draft,

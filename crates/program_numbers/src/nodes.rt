@@ -55,7 +55,7 @@ impl Numbering {
             DraftKind::Number(number) => Ok(NodeKind::Number(*number)),
             DraftKind::Truth(truth) => Ok(NodeKind::Truth(*truth)),
             DraftKind::BitsLit(bits) => Ok(NodeKind::BitsLit(*bits)),
-            DraftKind::Quoted(text) => Ok(NodeKind::Quoted(**text)),
+            DraftKind::Quoted(text) => Ok(NodeKind::Quoted(Box::new(self.alloc, **text)?)),
             DraftKind::Goto(label) => Ok(NodeKind::Goto(self.names.number(*label))),
             DraftKind::Named(name, lists) => self.named(table, *name, lists),
             DraftKind::Negated(operand) => Ok(NodeKind::Negated(self.boxed(table, operand)?)),

@@ -25,7 +25,7 @@ fn sort_places(places: &mut Vec<Place>) -> Result<(), AllocError>
 fn name_places(alloc: Global, names: &[NameInfo]) -> Result<Vec<Place>, AllocError>
     ensures { IfOk result (λ places. places.items ≡ map (λ info. info.place) names.now) }
 {
-    let mut places = Vec::new(alloc);
+    let mut places = Vec::with_capacity(alloc, names.len())?;
     for info in names {
         places.push(info.place)?;
     }

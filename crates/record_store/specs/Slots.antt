@@ -14,8 +14,8 @@ value_of (Bits bits) text = Some (value.Bits bits)
 value_of Str text = Some (value.Str text)
 value_of (Reference record_id) text = Some (value.Reference record_id)
 
--- the same of fields in line
+-- the same of fields in line; there are no characters past the end of the texts
 abbrev pub values_of : List Slot → List (List ℕ) → List (Option Value)
 values_of [] texts = []
-values_of (slot ∷ slots) [] = []
+values_of (slot ∷ slots) [] = value_of slot [] ∷ values_of slots []
 values_of (slot ∷ slots) (text ∷ texts) = value_of slot text ∷ values_of slots texts

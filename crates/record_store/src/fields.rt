@@ -1,4 +1,4 @@
-ghost use Rattle.std.specs.Prelude.{◌≡◌, ◌≤◌, ◌<◌, ◌+◌, ◌++◌, None, Some, IfOk, length, replicate, take, drop, slice_index_or, slice_set};
+ghost use Rattle.std.specs.Prelude.{◌≡◌, ◌≤◌, ◌<◌, ◌+◌, ◌++◌, ℕ, [], None, Some, IfOk, length, replicate, take, drop, slice_index_or, slice_set, vec_capacity};
 
 use std::alloc::{AllocError, Global};
 use std::marker::Model;
@@ -28,12 +28,13 @@ const _: () = prove!(size_of::<Slot>() == 8);
 #[derive(Drop)]
 pub(crate) struct Fields {
     slots: Vec<Slot>,
-    /// The characters of the field at the same place, where it holds a string.
+    /// The characters of the field at the same place, where it holds a string. They go as far as a string was ever set, and
+    /// there is room for those of all fields: memory that no string was written to isn't asked of the system.
     texts: Vec<Text>,
 }
 
 impl Model for Fields {
-    ghost use Rattle.std.specs.Prelude.{◌≡◌, List, Option, length};
+    ghost use Rattle.std.specs.Prelude.{◌≤◌, List, Option, length, vec_capacity};
     ghost use Rattle.value_ops.specs.declared.values.Value.{Value as Held};
     ghost use Rattle.record_store.specs.Slots.{values_of};
 
@@ -41,7 +42,7 @@ impl Model for Fields {
 
     ghost view = { λ f. values_of f.slots.items f.texts.items };
 
-    ghost invariant = { λ f. length f.slots.items ≡ length f.texts.items };
+    ghost invariant = { λ f. length f.slots.items ≤ vec_capacity f.texts };
 }
 
 impl Fields {
@@ -49,15 +50,17 @@ impl Fields {
     pub(crate) fn new(alloc: Global, count: usize) -> Result<Fields, AllocError>
         ensures { IfOk result (λ fields. fields ≡ replicate count None) }
     {
+        let mut texts = Vec::new(alloc);
+        texts.reserve_exact(count)?;
         Ok(Fields {
             slots: vec![in alloc; Slot::Undefined; count]?,
-            texts: vec![in alloc; Text::new(); count]?,
+            texts,
         })
     }
 
     /// What the field at a place holds.
     #[inline]
-    #[tactic(auto, using(crate::proofs::Values::within_both))]
+    #[tactic(auto, using(crate::proofs::Values::within_slots))]
     pub(crate) fn at(&self, place: usize) -> Option<Value>
         requires { place < length self.now }
         ensures { result ≡ slice_index_or self.now place None }
@@ -67,14 +70,14 @@ impl Fields {
             Slot::Integer(number) => Some(Value::Integer(number)),
             Slot::Logical(truth) => Some(Value::Logical(truth)),
             Slot::Bits(bits) => Some(Value::Bits(bits)),
-            Slot::Str => Some(Value::Str(self.texts[place])),
+            Slot::Str => Some(Value::Str(text_at(&self.texts, place))),
             Slot::Reference(record) => Some(Value::Reference(record)),
         }
     }
 
     /// Sets the field at a place.
     #[inline]
-    #[tactic(auto, using(crate::proofs::Values::within_both))]
+    #[tactic(auto, using(crate::proofs::Values::within_slots))]
     pub(crate) fn set(&mut self, place: usize, value: Value)
         requires { place < length self.old }
         ensures { self.new ≡ slice_set self.old place (Some value) }
@@ -84,7 +87,7 @@ impl Fields {
             Value::Logical(truth) => Slot::Logical(truth),
             Value::Bits(bits) => Slot::Bits(bits),
             Value::Str(text) => {
-                self.texts[place] = text;
+                put_text(&mut self.texts, place, text);
                 Slot::Str
             }
             Value::Reference(record) => Slot::Reference(record),
@@ -101,4 +104,28 @@ impl Fields {
     {
         self.slots[first..first + count].fill(Slot::Undefined);
     }
+}
+
+/// The text at a place; no characters where texts don't go so far.
+#[inline]
+fn text_at(texts: &[Text], place: usize) -> Text
+    ensures { result ≡ slice_index_or texts.now place [] }
+{
+    match texts.get(place) {
+        Some(text) => *text,
+        None => Text::new(),
+    }
+}
+
+/// Puts a text at a place. Where texts don't go so far, there are texts without characters up to it.
+fn put_text(texts: &mut Vec<Text>, place: usize, text: Text)
+    requires { place < vec_capacity texts.old }
+    ensures put { (more : ℕ) × (texts.new.items
+        ≡ slice_set (texts.old.items ++ replicate more []) place text) × (place < length texts.new.items) }
+    ensures room { vec_capacity texts.new ≡ vec_capacity texts.old }
+{
+    while texts.len() <= place {
+        texts.push_reserved(Text::new());
+    }
+    texts[place] = text;
 }

@@ -26,7 +26,7 @@ use value_ops::Place;
 fn coded_names(alloc: Global, names: &[NameInfo]) -> Result<Vec<CodedName>, AllocError>
     ensures { IfOk result (λ coded. coded.items ≡ map coded_name names.now) }
 {
-    let mut coded = Vec::new(alloc);
+    let mut coded = Vec::with_capacity(alloc, names.len())?;
     for name in names {
         coded.push(CodedName {
             place: name.place,
@@ -45,7 +45,7 @@ fn class_places(
     requires { All (λ n. n < length names.now) class_names.now }
     ensures { IfOk result (λ places. places.items ≡ map (numbered (map (λ i. i.place) names.now)) class_names.now) }
 {
-    let mut places = Vec::new(alloc);
+    let mut places = Vec::with_capacity(alloc, class_names.len())?;
     for name in class_names {
         places.push(names[*name as usize].place)?;
     }
@@ -57,7 +57,7 @@ fn program_tables(alloc: Global, program: &Program) -> Result<ProgramTables, All
     requires { All (λ n. n < length program.now.names.items) program.now.class_names.items }
     ensures { IfOk result (λ tables. given_by tables ≡ given_of program.now) }
 {
-    let mut statements = Vec::new(alloc);
+    let mut statements = Vec::with_capacity(alloc, program.statements.len())?;
     for place in &program.statements {
         statements.push(*place)?;
     }

@@ -105,7 +105,7 @@ pub fn emit_phrase(
         NodeKind::Number(n) => emitter.alone(here, number(n)),
         NodeKind::Truth(value) => emitter.alone(here, truth(*value)),
         NodeKind::BitsLit(bits) => emitter.alone(here, Instr::Constant(Constant::Bits(*bits))),
-        NodeKind::Quoted(text) => emitter.quoted(here, *text),
+        NodeKind::Quoted(text) => emitter.quoted(here, **text),
         NodeKind::Goto(name) => emit_goto(emitter, here.in_statement(node.statement), *name),
         NodeKind::Named(name, lists) => emit_named(emitter, here, mode, node, *name, lists),
         NodeKind::Negated(a) => emit_before(

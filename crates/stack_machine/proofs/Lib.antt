@@ -9,6 +9,7 @@ pub mod RecordShown
 pub mod JumpRows
 pub mod RowResults
 pub mod RunRows
+pub mod Passing
 pub mod RunShown
 pub mod Walks
 pub mod BoundsShown

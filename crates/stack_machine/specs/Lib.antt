@@ -3,6 +3,8 @@ pub mod Jumps
 pub mod Prepared
 pub mod Dumped
 pub mod Told
+pub mod Joined
 pub mod Running
 pub mod Runs
+pub mod Passing
 pub mod Desks

@@ -5,6 +5,8 @@ mod blocks;
 mod control;
 mod desk;
 mod dump;
+mod joined;
+mod joined_rows;
 mod loops;
 mod rows;
 mod running;

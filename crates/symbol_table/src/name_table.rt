@@ -47,7 +47,7 @@ impl NameTable {
     pub fn new(alloc: Global, count: usize) -> Result<NameTable, AllocError>
         ensures { IfOk result (λ t. t ≡ record { names = every_name; count = max 12 count }) }
     {
-        let mut standings = Vec::new(alloc);
+        let mut standings = Vec::with_capacity(alloc, count)?;
         for standard in STANDARD {
             standings.push(Standing::Standard(standard))?;
         }

@@ -7,17 +7,19 @@ use Rattle.std.specs.declared.vec.Vec.{Vec}
 use Rattle.std.specs.declared.alloc.Global.{Global}
 use Rattle.algolw_tree.specs.declared.phrases.TypeSpec.{TypeSpec as Spec}
 use Rattle.algolw_tree.specs.Tree.{Phrase, Placed, TypeSpec}
-use Rattle.algolw_tree.specs.View.{spec_tree}
+use Rattle.algolw_tree.specs.declared.phrases.Phrase.{Phrase as Held}
+use Rattle.algolw_tree.specs.View.{spec_tree, tree}
+use Rattle.std.specs.declared.boxed.Box.{Box}
 use Rattle.algolw_grammar.specs.Readers.{Out, Got, Bad, Deep, Reader, mapped, gathered, read_labelled}
 use Rattle.algolw_grammar.specs.Reading.{read_later}
 use Rattle.algolw_grammar.specs.Taken.{label_taken}
 use Rattle.token_reader.specs.declared.stop.Stop.{Stop}
 use Rattle.token_reader.specs.declared.stop.Stop.TheVariants.{Memory, Unexpected, TooDeep}
 
--- the place of the first token
-abbrev pub place_at : List Token → Option Place
-place_at [] = None
-place_at (t ∷ w) = Some t.place
+-- the place of the first token; on no card where there is none
+abbrev pub place_at : List Token → Place
+place_at [] = record { card = 0; column = 0 }
+place_at (t ∷ w) = t.place
 
 abbrev pub Fails : {A : Type 0} → Stop → Out A → Type 0
 Fails Memory o = Unit {0}
@@ -27,6 +29,10 @@ Fails (TooDeep p) o = (r : List Token) × (o ≡ Deep r) × (p ≡ place_at r)
 abbrev pub Gives : {X A : Type 0} → (X → A) → Result X Stop → List Token → Out A → Type 0
 Gives view (Ok x) rest o = o ≡ Got (view x) None rest
 Gives view (Err e) rest o = Fails e o
+
+-- the tree of a phrase in a box
+abbrev pub boxed_tree : Box Held Global → Phrase
+boxed_tree b = tree b.value
 
 -- a list behind its first, which stands in front: others, each behind a separator
 abbrev pub read_behind : {A : Type 0} → A → Symbol → Reader A → Reader (List A)

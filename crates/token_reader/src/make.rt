@@ -1,9 +1,12 @@
 ghost use Rattle.std.specs.Prelude.{◌≡◌, map, IfOk};
-ghost use Rattle.algolw_tree.specs.Tree.{ForList, Array as ArrayDecl, OfActuals};
+ghost use Rattle.algolw_tree.specs.Tree.{ForList, Array as ArrayDecl, Linked, OfActuals};
 ghost use Rattle.algolw_tree.specs.Grammar.{at, phrases_of, bounds_of, actuals_of, block_of, named_of, chain_of, case_of, case_value, case_do};
+ghost use Rattle.token_reader.specs.Gives.{boxed_tree};
 ghost use Rattle.algolw_tree.specs.View.{tree, kind_tree, spec_tree, decl_tree, item_tree, bound_tree, list_tree, link_tree, actual_tree};
 
-use algolw_tree::{Actual, Bound, Decl, Item, Kind, Link, List, ListKind, Names, Phrase, TypeSpec};
+use algolw_tree::{
+    Actual, Bound, Decl, Item, Kind, Link, List, ListKind, Names, Op, Phrase, TypeSpec,
+};
 use std::alloc::{AllocError, Global};
 use value_ops::{Name, Place};
 
@@ -32,16 +35,31 @@ pub fn block(place: Place, decls: Vec<Decl>, items: Vec<Item>) -> Phrase
     at(place, Kind::Block(decls, items))
 }
 
+/// An operator and the operand behind it.
+pub fn link(op: Op, place: Place, right: Box<Phrase>) -> Link
+    ensures { link_tree result ≡ Linked op place (boxed_tree right) }
+{
+    Link {
+        op,
+        place,
+        right: Box::into_inner(right),
+    }
+}
+
 /// A chain, where there are links.
-pub fn chained(alloc: Global, first: Phrase, links: Vec<Link>) -> Result<Phrase, AllocError>
-    ensures { IfOk result (λ phrase. tree phrase ≡ chain_of (tree first, map link_tree links.items)) }
+pub fn chained(
+    alloc: Global,
+    first: Box<Phrase>,
+    links: Vec<Link>,
+) -> Result<Box<Phrase>, AllocError>
+    ensures { IfOk result (λ phrase. boxed_tree phrase ≡ chain_of (boxed_tree first, map link_tree links.items)) }
 {
     if links.is_empty() {
         return Ok(first);
     }
     let place = first.first;
-    let first = Box::new(alloc, first)?;
-    Ok(at(place, Kind::Chain(first, links)))
+    let chain = Box::new(alloc, at(place, Kind::Chain(first, links)))?;
+    Ok(chain)
 }
 
 /// A CASE with values.

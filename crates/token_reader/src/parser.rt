@@ -172,13 +172,13 @@ impl Parser<'_> {
         }
     }
 
-    /// The place of the next token, where there is one.
-    pub fn place(&self) -> Option<Place>
+    /// The place of the next token; on no card where there is none.
+    pub fn place(&self) -> Place
         ensures { result ≡ place_at self.now.rest.now }
     {
         match self.rest {
-            [token, ..] => Some(token.place),
-            [] => None,
+            [token, ..] => token.place,
+            [] => Place { card: 0, column: 0 },
         }
     }
 

@@ -4,15 +4,16 @@ ghost use Rattle.token_reader.specs.declared.stop.Stop.TheVariants.{Memory};
 use std::alloc::{AllocError, AllocFailed};
 use value_ops::Place;
 
-/// Why reading stopped, and at which place, where a token is left.
+/// Why reading stopped, and at which place; on no card where no token is left. It takes six bytes, so that in a `Result` it
+/// stands in front of what stands in its place where reading goes on, and neither is cut into pieces to be moved.
 #[derive(Drop)]
 pub enum Stop {
     /// Memory is wanting.
     Memory,
     /// The first token that is left doesn't go on.
-    Unexpected(Option<Place>),
+    Unexpected(Place),
     /// The first token that is left begins nesting beyond the limit.
-    TooDeep(Option<Place>),
+    TooDeep(Place),
 }
 
 impl From<AllocError> for Stop {

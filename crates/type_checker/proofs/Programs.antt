@@ -12,7 +12,6 @@ use Rattle.value_ops.specs.declared.places.Diagnostic.{Diagnostic}
 use Rattle.value_ops.specs.declared.places.Place.{Place}
 use Rattle.algolw_tree.specs.declared.programs.NameInfo.{NameInfo}
 use Rattle.algolw_tree.specs.declared.programs.Program.{Program}
-use Rattle.algolw_tree.specs.declared.programs.Use.{Use}
 use Rattle.algolw_tree.specs.Tree.{Phrase}
 use Rattle.algolw_typing.specs.Faults.{inserted, in_order, is_in_front, faults_found, program_faults, typed_program}
 use Rattle.algolw_typing.specs.Known.{AllHad, Knows, ClassesKnow, IsNamed}
@@ -60,16 +59,16 @@ some_said x found given e some g = (some_in_order (faults_found x (typed_program
 
 -- ---- what is resolved of a program without faults
 
-pub known_names : (x : Phrase) (names : List NameInfo) (uses : List Use) (found : List FoundClass) (faults : List Diagnostic) (root : typed.Node) → program_faults x ≡ [] → IsResolution x names uses found faults → root ≡ (typed_program x).node
+pub known_names : (x : Phrase) (names : List NameInfo) (found : List FoundClass) (root : typed.Node) → program_faults x ≡ [] → IsResolution x names found → root ≡ (typed_program x).node
     → Knows (map (λ (i : NameInfo). i.place) names) (map (λ (c : Class). c.place) (map class_view found)) root
-known_names x names uses found faults root none r e =
+known_names x names found root none r e =
     subst (λ (n : typed.Node). Knows (map (λ (i : NameInfo). i.place) names) (map (λ (c : Class). c.place) (map class_view found)) n) (sym e)
     (subst (λ (cs : List Class). Knows (map (λ (i : NameInfo). i.place) names) (map (λ (c : Class). c.place) cs) (typed_program x).node) (sym r.classes)
     (subst (λ (is : List NameInfo). Knows (map (λ (i : NameInfo). i.place) is) (map (λ (c : Class). c.place) (ordered_classes (program_naming x))) (typed_program x).node) (sym r.declared) (nothing_is_unknown.tree x none)))
 
-pub known_fields : (x : Phrase) (names : List NameInfo) (uses : List Use) (found : List FoundClass) (faults : List Diagnostic) → program_faults x ≡ [] → IsResolution x names uses found faults
+pub known_fields : (x : Phrase) (names : List NameInfo) (found : List FoundClass) → program_faults x ≡ [] → IsResolution x names found
     → ClassesKnow (map (λ (c : Class). c.place) (map class_view found)) (map class_view found)
-known_fields x names uses found faults none r = subst (λ (cs : List Class). ClassesKnow (map (λ (c : Class). c.place) cs) cs) (sym r.classes) (nothing_is_unknown.fields x none)
+known_fields x names found none r = subst (λ (cs : List Class). ClassesKnow (map (λ (c : Class). c.place) cs) cs) (sym r.classes) (nothing_is_unknown.fields x none)
 
 is_there : (names : List NameInfo) (k : ℕ) (i : NameInfo) (p : Place) → k < length names → get_or names k i ≡ i → i.place ≡ p → has (map (λ (j : NameInfo). j.place) names) p ≡ true
 is_there [] k i p within at e = absurd (omega arith)
@@ -82,8 +81,8 @@ all_there names (c ∷ cs) h =
     let first : IsNamed names c = h 0 c (omega arith) in
     (is_there names first.0 first.1 c.place first.2 first.3 first.4.0, all_there names cs (λ k d within. h (suc k) d (omega (arith, within))))
 
-pub known_classes : (x : Phrase) (names : List NameInfo) (uses : List Use) (found : List FoundClass) (faults : List Diagnostic) → IsResolution x names uses found faults → AllHad (map (λ (i : NameInfo). i.place) names) (map (λ (c : Class). c.place) (map class_view found))
-known_classes x names uses found faults r =
+pub known_classes : (x : Phrase) (names : List NameInfo) (found : List FoundClass) → IsResolution x names found → AllHad (map (λ (i : NameInfo). i.place) names) (map (λ (c : Class). c.place) (map class_view found))
+known_classes x names found r =
     subst (λ (cs : List Class). AllHad (map (λ (i : NameInfo). i.place) names) (map (λ (c : Class). c.place) cs)) (sym r.classes)
     (
     subst (λ (is : List NameInfo). AllHad (map (λ (i : NameInfo). i.place) is) (map (λ (c : Class). c.place) (ordered_classes (program_naming x)))) (sym r.declared)
@@ -93,14 +92,14 @@ known_classes x names uses found faults r =
 abbrev pub at_program : typed.Node → List NameInfo → List Class → TypedProgram
 at_program root names classes = record { root = root; names = names; classes = classes; statements = by_place (λ (p : Place). p) (statements root) }
 
-program_held : (x : Phrase) (names : List NameInfo) (uses : List Use) (found : List FoundClass) (faults : List Diagnostic) (root : typed.Node) (p : Program) → IsResolution x names uses found faults → root ≡ (typed_program x).node
+program_held : (x : Phrase) (names : List NameInfo) (found : List FoundClass) (root : typed.Node) (p : Program) → IsResolution x names found → root ≡ (typed_program x).node
     → HoldsProgram p (at_program root names (map class_view found)) → HoldsProgram p (program_of x)
-program_held x names uses found faults root p r e h =
+program_held x names found root p r e h =
     subst (λ (cs : List Class). HoldsProgram p (at_program (typed_program x).node (ordered_names (program_naming x)) cs)) r.classes
     (subst (λ (is : List NameInfo). HoldsProgram p (at_program (typed_program x).node is (map class_view found))) r.declared
     (subst (λ (n : typed.Node). HoldsProgram p (at_program n names (map class_view found))) e h))
 
-pub if_held : (x : Phrase) (names : List NameInfo) (uses : List Use) (found : List FoundClass) (faults : List Diagnostic) (root : typed.Node) (r : Result Program AllocError) → IsResolution x names uses found faults → root ≡ (typed_program x).node
+pub if_held : (x : Phrase) (names : List NameInfo) (found : List FoundClass) (root : typed.Node) (r : Result Program AllocError) → IsResolution x names found → root ≡ (typed_program x).node
     → IfOk r (λ p. HoldsProgram p (at_program root names (map class_view found))) → IfOk r (λ p. HoldsProgram p (program_of x))
-if_held x names uses found faults root (Ok p) i e h = program_held x names uses found faults root p i e h
-if_held x names uses found faults root (Err e) i d h = h
+if_held x names found root (Ok p) i e h = program_held x names found root p i e h
+if_held x names found root (Err e) i d h = h

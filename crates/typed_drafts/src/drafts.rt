@@ -1,6 +1,6 @@
-use algolw_tree::{Mode, Op, RelOp};
+use algolw_tree::{Literal, Mode, Op, RelOp};
 use typing_rules::{PhraseType, ValueType};
-use value_ops::{Place, Text};
+use value_ops::Place;
 
 /// What is declared, each by the place of its name in its declaration.
 pub type Places<'a> = &'a [Place];
@@ -36,7 +36,7 @@ pub enum DraftKind<'a> {
     /// Bits that are written out.
     BitsLit(u32),
     /// A string that is written out.
-    Quoted(&'a Text),
+    Quoted(&'a Literal),
     /// A name, as the place where it is declared, and the lists in parentheses behind it.
     Named(Place, &'a [DraftList<'a>]),
     /// `~` and its operand.

@@ -10,7 +10,7 @@ ghost use Rattle.typed_drafts.specs.DraftView.{draft_view, kind_view};
 ghost use Rattle.typed_phrases.specs.FoundParts.{given_view, links_view};
 ghost use Rattle.typed_phrases.specs.Found.{Finds, found_view};
 
-use algolw_tree::{Op, RelOp};
+use algolw_tree::{Literal, Op, RelOp};
 use bumpalo::Bump;
 use bumpalo::collections::into_bump_slice;
 use std::alloc::{AllocError, Global};
@@ -18,7 +18,7 @@ use typed_drafts::{Draft, DraftKind, DraftLink};
 use typing_rules::{
     NoType, PhraseType, ValueType, Verdict, integer_row, link_row, negated_row, relation_row,
 };
-use value_ops::{Place, Text};
+use value_ops::Place;
 
 /// Where a phrase stands, and where its draft is made.
 #[derive(Clone, Copy)]
@@ -124,7 +124,7 @@ pub fn leaf<'a>(
 }
 
 /// A string that is written out.
-pub fn quoted<'a>(spot: Spot<'a>, text: Text) -> Result<Typed<'a>, AllocError>
+pub fn quoted<'a>(spot: Spot<'a>, text: Literal) -> Result<Typed<'a>, AllocError>
     ensures { IfOk result (λ t. Finds t (rules.leaf spot.entry.place spot.entry.first
         (types.Str (length text)) (typed.Quoted text))) }
 {

@@ -61,8 +61,12 @@ pub fn work<B: QueueBrand, R: Wait, G: Gate>(
     unreachable!()
 }
 
-/// Waits for the next look, behind so many that have found nothing.
+/// Waits for the next look, behind so many that have found nothing. The first of them has perhaps decided a job, and
+/// isn't waited for.
 fn rest<R: Wait>(rt: &R, idle: &Parker, looks: u32) {
+    if looks == 0 {
+        return;
+    }
     if looks < LOOKS {
         thread::yield_now();
     } else {

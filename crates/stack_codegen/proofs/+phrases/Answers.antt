@@ -9,7 +9,7 @@ use Rattle.code_emitter.proofs.Composing.{fits_there, stays_both, stays_itself, 
 use Rattle.code_emitter.proofs.Joining.{codes_nothing, codes_most}
 use Rattle.code_emitter.proofs.Lines.{before_codes}
 use Rattle.code_emitter.proofs.Remaining.{remains_all}
-use Rattle.code_emitter.specs.Appending.{appended, replaced, with_goto, with_name}
+use Rattle.code_emitter.specs.Appending.{appended, replaced, with_goto, with_name, with_quoted}
 use Rattle.code_emitter.specs.Parts.{is_plain, next, phrase_in, scene, none_own}
 use Rattle.code_emitter.specs.declared.emitter.Emitter.{Emitter}
 use Rattle.stack_code.specs.CodeView.{InstrFits, KindsFit, formal_type_view}
@@ -249,7 +249,7 @@ pub phrases::emit_phrase-returns-in-BitsLit : goal.phrases::emit_phrase-returns-
 phrases::emit_phrase-returns-in-BitsLit t c = instruction_done c.alone-in-BitsLit.result _ c.alone-in-BitsLit.ensures.none c.alone-in-BitsLit.ensures.appended (λ e. leaf_done c.args.here c.args.mode c.args.node.now (typed.BitsLit c.in-BitsLit.bits) (held.Constant (constant.Bits c.in-BitsLit.bits)) refl refl c.requires.fits.code (ap (kind_view (numbers_in (scene c.args.emitter.now))) c.in-BitsLit.is) e)
 
 pub phrases::emit_phrase-returns-in-Quoted : goal.phrases::emit_phrase-returns-in-Quoted
-phrases::emit_phrase-returns-in-Quoted t c = instruction_done c.quoted.result _ c.quoted.ensures.none c.quoted.ensures.made (λ e. kind_done c.args.here c.args.mode c.args.node.now (λ s. typed.Quoted c.in-Quoted.text) (ap (kind_view (numbers_in (scene c.args.emitter.now))) c.in-Quoted.is) (quoted_done c.args.here c.args.mode c.in-Quoted.text c.requires.fits.code e))
+phrases::emit_phrase-returns-in-Quoted t c = instruction_done c.quoted.result _ c.quoted.ensures.none c.quoted.ensures.made (λ e. kind_done c.args.here c.args.mode c.args.node.now (λ s. typed.Quoted c.in-Quoted.text.value) (ap (kind_view (numbers_in (scene c.args.emitter.now))) c.in-Quoted.is) (quoted_done c.args.here c.args.mode c.in-Quoted.text.value c.requires.fits.code (e ∙ ap (λ s. with_quoted c.args.emitter.now c.args.here s) c.deref.ensures)))
 
 pub phrases::emit_phrase-returns-in-Goto : goal.phrases::emit_phrase-returns-in-Goto
 phrases::emit_phrase-returns-in-Goto t c =
@@ -257,10 +257,10 @@ phrases::emit_phrase-returns-in-Goto t c =
     (λ e. goto_coded c.args.here c.args.mode c.args.node.now c.in-Goto.name c.in-Goto.is c.requires (e ∙ ap (λ (h : Here). with_goto c.args.emitter.now h (standing_of c.args.emitter.now.symbols.names c.in-Goto.name)) c.in_statement.ensures))
 
 pub phrases::emit_phrase-emit_named-requires : goal.phrases::emit_phrase-emit_named-requires
-phrases::emit_phrase-emit_named-requires t c = (let size = named_sized c.args.node.now c.in-Named.name c.in-Named.lists c.deref.result.now c.in-Named.is c.deref.ensures.value in omega (arith, size), named_known c.args.emitter.now c.args.node.now c.requires c.in-Named.name c.in-Named.lists c.deref.result.now c.in-Named.is c.deref.ensures.value)
+phrases::emit_phrase-emit_named-requires t c = (let size = named_sized c.args.node.now c.in-Named.name c.in-Named.lists c.deref-in-Named.result.now c.in-Named.is c.deref-in-Named.ensures.value in omega (arith, size), named_known c.args.emitter.now c.args.node.now c.requires c.in-Named.name c.in-Named.lists c.deref-in-Named.result.now c.in-Named.is c.deref-in-Named.ensures.value)
 
 pub phrases::emit_phrase-returns-in-Named : goal.phrases::emit_phrase-returns-in-Named
-phrases::emit_phrase-returns-in-Named t c = IfOk-weaker c.emit_named.result _ _ (λ m h. named_coded c.args.here c.args.mode c.args.node.now c.in-Named.name c.in-Named.lists c.deref.result.now c.in-Named.is c.deref.ensures.value h) c.emit_named.ensures
+phrases::emit_phrase-returns-in-Named t c = IfOk-weaker c.emit_named.result _ _ (λ m h. named_coded c.args.here c.args.mode c.args.node.now c.in-Named.name c.in-Named.lists c.deref-in-Named.result.now c.in-Named.is c.deref-in-Named.ensures.value h) c.emit_named.ensures
 
 pub phrases::emit_phrase-emit_before-requires : goal.phrases::emit_phrase-emit_before-requires
 phrases::emit_phrase-emit_before-requires t c =

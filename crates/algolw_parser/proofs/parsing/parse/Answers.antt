@@ -1,23 +1,20 @@
-use Rattle.std.proofs.Common.{◌∙◌, sym}
+use Rattle.std.proofs.Common.{ap, sym, ◌∙◌, Some}
+use Rattle.algolw_tree.specs.declared.phrases.Phrase.{Phrase}
+use Rattle.algolw_tree.specs.Programs.{Program}
 use Rattle.algolw_tree.specs.View.{tree}
+use Rattle.token_reader.specs.Gives.{boxed_tree}
 use Rattle.algolw_parser.specs.declared.parsing.Parsed.TheVariants.{Tree}
-use Rattle.algolw_parser.proofs.Parses.{means_read, reads_program, reads_more, reads_unexpected, reads_too_deep, some_unexpected, some_too_deep}
+use Rattle.algolw_parser.proofs.Parses.{means_read, reads_program, reads_more, reads_unexpected, reads_too_deep}
 use Rattle.algolw_parser.proofs.parsing.parse.Goals as goal
 
-pub bad-requires-in-Err-Unexpected : goal.bad-requires-in-Err-Unexpected
-bad-requires-in-Err-Unexpected c = some_unexpected c.args.tokens.now c.in-Err-Unexpected.place _ _ c.requires c.in-Err-Unexpected.place-is c.in-Err-Unexpected.field-0-is c.in-Err-Unexpected.ensures
-
-pub bad-requires-in-Err-TooDeep : goal.bad-requires-in-Err-TooDeep
-bad-requires-in-Err-TooDeep c = some_too_deep c.args.tokens.now c.in-Err-TooDeep.place _ _ c.requires c.in-Err-TooDeep.place-is c.in-Err-TooDeep.field-0-is c.in-Err-TooDeep.ensures
-
 pub returns-in-Ok-clause-reads : goal.returns-in-Ok-clause-reads
-returns-in-Ok-clause-reads c = reads_program c.args.tokens.now (tree c.in-Ok.program) c.program.new.parser.rest.now c.in-Ok.ensures (sym c.is_empty.ensures ∙ c.if-is_empty.true)
+returns-in-Ok-clause-reads c = reads_program c.args.tokens.now (boxed_tree c.in-Ok.program) c.program.new.parser.rest.now c.in-Ok.ensures (sym c.is_empty.ensures ∙ c.if-is_empty.true) ∙ ap (λ (x : Phrase). Some (Program (tree x))) (sym c.into_inner.ensures)
 
 pub returns-in-Ok-clause-means : goal.returns-in-Ok-clause-means
-returns-in-Ok-clause-means c = means_read c.args.tokens.now (Tree c.in-Ok.program) c.requires (returns-in-Ok-clause-reads c)
+returns-in-Ok-clause-means c = means_read c.args.tokens.now (Tree c.into_inner.result) c.requires (returns-in-Ok-clause-reads c)
 
 pub returns-in-Ok-2-clause-reads : goal.returns-in-Ok-2-clause-reads
-returns-in-Ok-2-clause-reads c = reads_more c.args.tokens.now (tree c.in-Ok.program) c.program.new.parser.rest.now c.place.result c.bad.result c.in-Ok.ensures (sym c.is_empty.ensures ∙ c.if-is_empty.false) c.place.ensures c.bad.ensures
+returns-in-Ok-2-clause-reads c = reads_more c.args.tokens.now (boxed_tree c.in-Ok.program) c.program.new.parser.rest.now c.place.result c.bad.result c.in-Ok.ensures (sym c.is_empty.ensures ∙ c.if-is_empty.false) c.place.ensures c.bad.ensures
 
 pub returns-in-Ok-2-clause-means : goal.returns-in-Ok-2-clause-means
 returns-in-Ok-2-clause-means c = means_read c.args.tokens.now c.bad.result c.requires (returns-in-Ok-2-clause-reads c)

@@ -1,30 +1,31 @@
 use Rattle.std.proofs.Common.{◌≡◌, ap, subst, sym, ◌∙◌, map}
+use Rattle.std.specs.Prelude.{None}
 use Rattle.algolw_tree.specs.declared.tokens.Symbol.TheVariants.{Comma, Semicolon, Open}
 use Rattle.algolw_tree.specs.Grammar.{left, right, link_of}
 use Rattle.algolw_tree.specs.View.{tree, link_tree, list_tree, actual_tree, bound_tree, item_tree, decl_tree}
 use Rattle.algolw_grammar.specs.Kinds.{the_symbol}
-use Rattle.algolw_grammar.specs.Readers.{mapped, gathered, read_left}
+use Rattle.algolw_grammar.specs.Readers.{Got, mapped, gathered, read_left}
 use Rattle.algolw_grammar.specs.Reading.{readers, read_symbol, read_perhaps, read_actual, read_bound, read_item, read_decl, read_decls, first_decl}
 use Rattle.token_reader.specs.declared.stop.Stop.{Stop}
-use Rattle.token_reader.specs.Gives.{Fails}
+use Rattle.token_reader.specs.Gives.{Fails, boxed_tree}
 use Rattle.token_reader.specs.Levels.{operators, read_operator, read_operand}
 use Rattle.token_reader.proofs.Turns.{turn_kept, turn_fails, both_got, both_fails, mapped_fails, failed, for_fails, values_fail, gathered_none}
 use Rattle.token_reader.proofs.Shrink.{shrinks_phrase, shrinks_part, shrinks_actual, shrinks_bound, shrinks_item, shrinks_decl, shrinks_listing, shrinks_link}
 use Rattle.algolw_parser.proofs.phrases.+phrases.Goals as goal
 
 pub later_phrases-turns-smaller : goal.later_phrases-turns-smaller
-later_phrases-turns-smaller t c = (shrinks_phrase c.args.room).less c.turns.parser.rest.now _ _ c.phrase.new.parser.rest.now (ap (mapped right) (both_got (read_symbol Comma) (readers c.args.room).phrase c.turns.parser.rest.now c.expect_symbol.new.self.rest.now c.phrase.new.parser.rest.now _ _ c.in_ok-expect_symbol.ensures c.in_ok-one.ensures))
+later_phrases-turns-smaller t c = (shrinks_phrase c.args.room).less c.turns.parser.rest.now _ _ c.unboxed.new.parser.rest.now (ap (mapped right) (both_got (read_symbol Comma) (readers c.args.room).phrase c.turns.parser.rest.now c.expect_symbol.new.self.rest.now c.unboxed.new.parser.rest.now _ _ c.in_ok-expect_symbol.ensures c.in_ok-one.ensures))
 
 pub later_phrases-turns-preserved : goal.later_phrases-turns-preserved
 later_phrases-turns-preserved t c =
-    turn_kept (the_symbol Comma) _ tree (shrinks_phrase c.args.room) c.turns.phrases.items _ c.in_ok-one.one c.turns.parser.rest.now c.phrase.new.parser.rest.now _ c.in_ok-push-2.ensures.items (sym c.at_symbol.ensures ∙ c.turns-test.true) (ap (mapped right) (both_got (read_symbol Comma) (readers c.args.room).phrase c.turns.parser.rest.now c.expect_symbol.new.self.rest.now c.phrase.new.parser.rest.now _ _ c.in_ok-expect_symbol.ensures c.in_ok-one.ensures)) c.turns.invariant
+    turn_kept (the_symbol Comma) _ tree (shrinks_phrase c.args.room) c.turns.phrases.items _ c.in_ok-one.one c.turns.parser.rest.now c.unboxed.new.parser.rest.now _ c.in_ok-push-2.ensures.items (sym c.at_symbol.ensures ∙ c.turns-test.true) (ap (mapped right) (both_got (read_symbol Comma) (readers c.args.room).phrase c.turns.parser.rest.now c.expect_symbol.new.self.rest.now c.unboxed.new.parser.rest.now _ _ c.in_ok-expect_symbol.ensures c.in_ok-one.ensures)) c.turns.invariant
 
 pub later_parts-turns-smaller : goal.later_parts-turns-smaller
-later_parts-turns-smaller t c = (shrinks_part c.args.room).less c.turns.parser.rest.now _ _ c.perhaps.new.parser.rest.now (ap (mapped right) (both_got (read_symbol Semicolon) (read_perhaps (readers c.args.room)) c.turns.parser.rest.now c.expect_symbol.new.self.rest.now c.perhaps.new.parser.rest.now _ _ c.in_ok-expect_symbol.ensures c.in_ok-one.ensures))
+later_parts-turns-smaller t c = (shrinks_part c.args.room).less c.turns.parser.rest.now _ _ c.part.new.parser.rest.now (ap (mapped right) (both_got (read_symbol Semicolon) (read_perhaps (readers c.args.room)) c.turns.parser.rest.now c.expect_symbol.new.self.rest.now c.part.new.parser.rest.now _ _ c.in_ok-expect_symbol.ensures c.in_ok-one.ensures))
 
 pub later_parts-turns-preserved : goal.later_parts-turns-preserved
 later_parts-turns-preserved t c =
-    turn_kept (the_symbol Semicolon) _ tree (shrinks_part c.args.room) c.turns.parts.items _ c.in_ok-one.one c.turns.parser.rest.now c.perhaps.new.parser.rest.now _ c.in_ok-push-2.ensures.items (sym c.at_symbol.ensures ∙ c.turns-test.true) (ap (mapped right) (both_got (read_symbol Semicolon) (read_perhaps (readers c.args.room)) c.turns.parser.rest.now c.expect_symbol.new.self.rest.now c.perhaps.new.parser.rest.now _ _ c.in_ok-expect_symbol.ensures c.in_ok-one.ensures)) c.turns.invariant
+    turn_kept (the_symbol Semicolon) _ tree (shrinks_part c.args.room) c.turns.parts.items _ c.in_ok-one.one c.turns.parser.rest.now c.part.new.parser.rest.now _ c.in_ok-push-2.ensures.items (sym c.at_symbol.ensures ∙ c.turns-test.true) (ap (mapped right) (both_got (read_symbol Semicolon) (read_perhaps (readers c.args.room)) c.turns.parser.rest.now c.expect_symbol.new.self.rest.now c.part.new.parser.rest.now _ _ c.in_ok-expect_symbol.ensures c.in_ok-one.ensures)) c.turns.invariant
 
 pub later_actuals-turns-smaller : goal.later_actuals-turns-smaller
 later_actuals-turns-smaller t c = (shrinks_actual c.args.room).less c.turns.parser.rest.now _ _ c.actual.new.parser.rest.now (ap (mapped right) (both_got (read_symbol Comma) (read_actual (readers c.args.room)) c.turns.parser.rest.now c.expect_symbol.new.self.rest.now c.actual.new.parser.rest.now _ _ c.in_ok-expect_symbol.ensures c.in_ok-one.ensures))
@@ -72,16 +73,16 @@ decls-returns-in_err-expect_symbol t c =
 pub iteration-returns-in_err-expect_word : goal.iteration-returns-in_err-expect_word
 iteration-returns-in_err-expect_word t c =
     let e : Stop = c.in_err-expect_word.field-0.0 in
-    failed tree c.from_residual-in_err-expect_word.result c.expect_word-then-at_values.new.self.rest.now e _ c.from_residual-in_err-expect_word.ensures (for_fails (readers c.args.room) e c.args.parser.now.rest.now c.expect_word.new.self.rest.now c.expect_name.new.self.rest.now c.expect_symbol.new.self.rest.now c.phrase.new.parser.rest.now c.later_phrases.new.parser.rest.now _ _ _ _ _ c.in_ok-place.ensures c.in_ok-control.ensures c.in_ok-expect_symbol.ensures c.in_ok-start.ensures (sym c.at_values.ensures ∙ c.if-at_values.true) c.in_ok-values.ensures c.in_err-expect_word.ensures)
+    failed boxed_tree c.from_residual-in_err-expect_word.result c.expect_word-then-at_values.new.self.rest.now e _ c.from_residual-in_err-expect_word.ensures (for_fails (readers c.args.room) e c.args.parser.now.rest.now c.expect_word.new.self.rest.now c.expect_name.new.self.rest.now c.expect_symbol.new.self.rest.now c.unboxed.new.parser.rest.now c.later_phrases.new.parser.rest.now _ _ _ _ _ c.in_ok-place.ensures c.in_ok-control.ensures c.in_ok-expect_symbol.ensures c.in_ok-start.ensures (sym c.at_values.ensures ∙ c.if-at_values.true) c.in_ok-values.ensures c.in_err-expect_word.ensures)
 
 pub iteration-returns-in_err-values : goal.iteration-returns-in_err-values
 iteration-returns-in_err-values t c =
     let e : Stop = c.in_err-values.field-0.0 in
-    failed tree c.from_residual-in_err-values.result c.later_phrases.new.parser.rest.now e _ c.from_residual-in_err-values.ensures (values_fail (readers c.args.room) e c.args.parser.now.rest.now c.expect_word.new.self.rest.now c.expect_name.new.self.rest.now c.expect_symbol.new.self.rest.now c.phrase.new.parser.rest.now _ _ _ _ c.in_ok-place.ensures c.in_ok-control.ensures c.in_ok-expect_symbol.ensures c.in_ok-start.ensures (sym c.at_values.ensures ∙ c.if-at_values.true) c.in_err-values.ensures)
+    failed boxed_tree c.from_residual-in_err-values.result c.later_phrases.new.parser.rest.now e _ c.from_residual-in_err-values.ensures (values_fail (readers c.args.room) e c.args.parser.now.rest.now c.expect_word.new.self.rest.now c.expect_name.new.self.rest.now c.expect_symbol.new.self.rest.now c.unboxed.new.parser.rest.now _ _ _ _ c.in_ok-place.ensures c.in_ok-control.ensures c.in_ok-expect_symbol.ensures c.in_ok-start.ensures (sym c.at_values.ensures ∙ c.if-at_values.true) c.in_err-values.ensures)
 
 pub links-turns-smaller : goal.links-turns-smaller
 links-turns-smaller t c = (shrinks_link c.args.room c.args.level).less c.turns.parser.rest.now _ _ c.operand.new.parser.rest.now (ap (mapped link_of) (both_got (read_operator c.args.level) (read_operand c.args.level (readers c.args.room)) c.turns.parser.rest.now c.operator.new.self.rest.now c.operand.new.parser.rest.now _ _ c.in_ok-op.ensures c.in_ok-right.ensures))
 
 pub links-turns-preserved : goal.links-turns-preserved
 links-turns-preserved t c =
-    turn_kept (operators c.args.level) _ link_tree (shrinks_link c.args.room c.args.level) c.turns.links.items _ _ c.turns.parser.rest.now c.operand.new.parser.rest.now _ c.in_ok-push.ensures.items (sym c.at_operator.ensures ∙ c.turns-test.true) (ap (mapped link_of) (both_got (read_operator c.args.level) (read_operand c.args.level (readers c.args.room)) c.turns.parser.rest.now c.operator.new.self.rest.now c.operand.new.parser.rest.now _ _ c.in_ok-op.ensures c.in_ok-right.ensures)) c.turns.invariant
+    turn_kept (operators c.args.level) _ link_tree (shrinks_link c.args.room c.args.level) c.turns.links.items _ c.link.result c.turns.parser.rest.now c.operand.new.parser.rest.now _ c.in_ok-push.ensures.items (sym c.at_operator.ensures ∙ c.turns-test.true) (ap (mapped link_of) (both_got (read_operator c.args.level) (read_operand c.args.level (readers c.args.room)) c.turns.parser.rest.now c.operator.new.self.rest.now c.operand.new.parser.rest.now _ _ c.in_ok-op.ensures c.in_ok-right.ensures) ∙ ap (λ l. Got l None c.operand.new.parser.rest.now) (sym c.link.ensures)) c.turns.invariant

@@ -13,29 +13,35 @@ decreases-phrase l = 32 * l.room + 0
 abbrev pub decreases-perhaps : goal.decreases-perhaps
 decreases-perhaps l = 32 * l.room + 1
 
+abbrev pub decreases-unboxed : goal.decreases-unboxed
+decreases-unboxed l = 32 * l.room + 1
+
+abbrev pub decreases-part : goal.decreases-part
+decreases-part l = 32 * l.room + 2
+
 abbrev pub decreases-later_phrases : goal.decreases-later_phrases
-decreases-later_phrases l = 32 * l.room + 1
+decreases-later_phrases l = 32 * l.room + 2
 
 abbrev pub decreases-actual : goal.decreases-actual
-decreases-actual l = 32 * l.room + 1
+decreases-actual l = 32 * l.room + 2
 
 abbrev pub decreases-bound : goal.decreases-bound
-decreases-bound l = 32 * l.room + 1
+decreases-bound l = 32 * l.room + 2
 
 abbrev pub decreases-assertion : goal.decreases-assertion
 decreases-assertion l = 32 * l.room + 1
 
 abbrev pub decreases-item : goal.decreases-item
-decreases-item l = 32 * l.room + 2
+decreases-item l = 32 * l.room + 3
 
 abbrev pub decreases-later_parts : goal.decreases-later_parts
-decreases-later_parts l = 32 * l.room + 2
+decreases-later_parts l = 32 * l.room + 3
 
 abbrev pub decreases-later_actuals : goal.decreases-later_actuals
-decreases-later_actuals l = 32 * l.room + 2
+decreases-later_actuals l = 32 * l.room + 3
 
 abbrev pub decreases-later_bounds : goal.decreases-later_bounds
-decreases-later_bounds l = 32 * l.room + 2
+decreases-later_bounds l = 32 * l.room + 3
 
 abbrev pub decreases-procedure : goal.decreases-procedure
 decreases-procedure l = 32 * l.room + 2
@@ -47,52 +53,52 @@ abbrev pub decreases-repetition : goal.decreases-repetition
 decreases-repetition l = 32 * l.room + 2
 
 abbrev pub decreases-later_items : goal.decreases-later_items
-decreases-later_items l = 32 * l.room + 3
+decreases-later_items l = 32 * l.room + 4
 
 abbrev pub decreases-decl : goal.decreases-decl
-decreases-decl l = 32 * l.room + 3
+decreases-decl l = 32 * l.room + 4
 
 abbrev pub decreases-listing : goal.decreases-listing
-decreases-listing l = 32 * l.room + 3
+decreases-listing l = 32 * l.room + 4
 
 abbrev pub decreases-selection : goal.decreases-selection
-decreases-selection l = 32 * l.room + 3
+decreases-selection l = 32 * l.room + 4
 
 abbrev pub decreases-iteration : goal.decreases-iteration
-decreases-iteration l = 32 * l.room + 3
+decreases-iteration l = 32 * l.room + 4
 
 abbrev pub decreases-decls : goal.decreases-decls
-decreases-decls l = 32 * l.room + 4
+decreases-decls l = 32 * l.room + 5
 
 abbrev pub decreases-lists : goal.decreases-lists
-decreases-lists l = 32 * l.room + 4
+decreases-lists l = 32 * l.room + 5
 
 abbrev pub decreases-block : goal.decreases-block
-decreases-block l = 32 * l.room + 5
+decreases-block l = 32 * l.room + 6
 
 abbrev pub decreases-primary : goal.decreases-primary
-decreases-primary l = 32 * l.room + 6
+decreases-primary l = 32 * l.room + 7
 
 abbrev pub decreases-relation : goal.decreases-relation
-decreases-relation l = 32 * l.room + 18
+decreases-relation l = 32 * l.room + 19
 
 abbrev pub decreases-negated : goal.decreases-negated
-decreases-negated l = 32 * l.room + 19
+decreases-negated l = 32 * l.room + 20
 
 abbrev pub decreases-assignment : goal.decreases-assignment
-decreases-assignment l = 32 * l.room + 30
+decreases-assignment l = 32 * l.room + 31
 
 abbrev pub decreases-operand : goal.decreases-operand
-decreases-operand l = 32 * l.room + (4 * rank l.level + 7)
+decreases-operand l = 32 * l.room + (4 * rank l.level + 8)
 
 abbrev pub decreases-first_operand : goal.decreases-first_operand
-decreases-first_operand l = 32 * l.room + (4 * rank l.level + 8)
+decreases-first_operand l = 32 * l.room + (4 * rank l.level + 9)
 
 abbrev pub decreases-links : goal.decreases-links
-decreases-links l = 32 * l.room + (4 * rank l.level + 8)
+decreases-links l = 32 * l.room + (4 * rank l.level + 9)
 
 abbrev pub decreases-chain : goal.decreases-chain
-decreases-chain l = 32 * l.room + (4 * rank l.level + 9)
+decreases-chain l = 32 * l.room + (4 * rank l.level + 10)
 
 abbrev pub invariant-later_phrases-turns : goal.invariant-later_phrases-turns
 invariant-later_phrases-turns l = gathered (map tree l.phrases.items) (read_later Comma (readers l.room).phrase l.parser.rest.now) ≡ gathered (map tree l.initial.phrases.items) (read_later Comma (readers l.room).phrase l.initial.parser.rest.now)

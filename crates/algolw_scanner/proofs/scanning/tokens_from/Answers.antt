@@ -3,7 +3,7 @@ use Rattle.algolw_scanner.proofs.scanning.tokens_from.Goals as goal
 
 pub pieces-preserved-in-Token : goal.pieces-preserved-in-Token
 pieces-preserved-in-Token c =
-    kept_as c.args.start c.in-Token.next _ _ _ _ c.in_ok-keep-in-Token.ensures c.is_end-after_end.ensures (kept_token c.args.start c.pieces.cursor c.in-Token.next c.pieces.tokens.items c.pieces.after_end c.in-Token.kind c.pieces.invariant c.in-Token.ensures)
+    kept_as c.args.start c.in-Token.next _ _ _ _ c.in_ok-keep-in-Token.ensures c.is_end-after_end.ensures (kept_token c.args.start c.pieces.cursor c.in-Token.next c.pieces.tokens.items c.pieces.after_end c.next_piece.new.kind c.pieces.invariant c.in-Token.ensures)
 
 pub pieces-preserved : goal.pieces-preserved
 pieces-preserved c = kept_skip c.args.start c.pieces.cursor c.in-Skipped.next c.pieces.tokens.items c.pieces.after_end c.pieces.invariant c.in-Skipped.ensures

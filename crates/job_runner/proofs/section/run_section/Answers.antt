@@ -17,7 +17,7 @@ returns g c =
     let shown = shown_by c.args.desk.now in
     let counts : HasCounts statements g.begun (length deck) firsts = subst (λ n. HasCounts statements g.begun n firsts) (c.len.ensures ∙ ap (λ (j : JobView). length j.deck) c.job.view_is) c.in_ok-firsts.ensures.counts in
     let source = c.in_ok-push_counted_source.ensures
-    ∙ ap (λ (text : List ℕ). text ++ lines (lines_beside c.as_slice-2.result.now 1 c.as_slice.result.now)) c.new-out.ensures.items
+    ∙ ap (λ (text : List ℕ). text ++ lines (lines_beside c.as_slice-2.result.now 1 c.as_slice.result.now)) c.in_ok-out.ensures.items
     ∙ ap (λ fs. lines (lines_beside fs 1 c.as_slice.result.now)) c.as_slice-2.ensures.value
     ∙ ap (λ (cards : List (List ℕ)). lines (lines_beside firsts 1 cards)) (c.as_slice.ensures ∙ ap (λ (j : JobView). j.deck) c.job.view_is)
     ∙ ap lines (beside_is statements g.begun deck firsts counts) in

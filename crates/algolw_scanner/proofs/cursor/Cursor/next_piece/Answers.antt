@@ -12,8 +12,8 @@ shorter line u r e = omega (arith, ap length e, length-append u r)
 blank : (c : In-Blank) → Matches c.args.self.line.now (text c.args.self.later.now) (Pass c.in-Blank.rest.now)
 blank c = matches_at c.args.self c.requires c.is_empty.result c.is_empty.ensures c.if-is_empty.false (Pass c.in-Blank.rest.now) c.in-Blank.ensures
 
-token : (c : In-Token) → Matches c.args.self.line.now (text c.args.self.later.now) (Found c.in-Token.kind c.in-Token.rest.now)
-token c = matches_at c.args.self c.requires c.is_empty.result c.is_empty.ensures c.if-is_empty.false (Found c.in-Token.kind c.in-Token.rest.now) c.in-Token.ensures
+token : (c : In-Token) → Matches c.args.self.line.now (text c.args.self.later.now) (Found c.front.new.kind c.in-Token.rest.now)
+token c = matches_at c.args.self c.requires c.is_empty.result c.is_empty.ensures c.if-is_empty.false (Found c.front.new.kind c.in-Token.rest.now) c.in-Token.ensures
 
 fault : (c : In-Fault) → Matches c.args.self.line.now (text c.args.self.later.now) (Fault c.in-Fault.number)
 fault c = matches_at c.args.self c.requires c.is_empty.result c.is_empty.ensures c.if-is_empty.false (Fault c.in-Fault.number) c.in-Fault.ensures
@@ -48,8 +48,8 @@ returns-in-Blank c =
 
 pub returns-in-Token : goal.returns-in-Token
 returns-in-Token c =
-    let h : Matches c.args.self.line.now (text c.args.self.later.now) (Found c.in-Token.kind c.in-Token.rest.now) = token (goal.at.returns-in-Token c).In-Token in
-    next_reads c.args.self c.past-in-Token.result h.0 _ (OfKind c.in-Token.kind) h.2 (c.past-in-Token.ensures h.0 h.1)
+    let h : Matches c.args.self.line.now (text c.args.self.later.now) (Found c.front.new.kind c.in-Token.rest.now) = token (goal.at.returns-in-Token c).In-Token in
+    next_reads c.args.self c.past-in-Token.result h.0 _ (OfKind c.front.new.kind) h.2 (c.past-in-Token.ensures h.0 h.1)
 
 pub returns-in-Fault : goal.returns-in-Fault
 returns-in-Fault c =

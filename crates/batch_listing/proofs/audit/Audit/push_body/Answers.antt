@@ -22,4 +22,4 @@ pub returns-in_ok-push_ended-in-None-clause-book : goal.returns-in_ok-push_ended
 returns-in_ok-push_ended-in-None-clause-book c =
     let decided = ap (decision (slice_index c.args.self.now.book.balances)) (sym c.deref.ensures) ∙ sym c.decide.ensures.decision ∙ c.in-Accepted.is in
     c.in_ok-push_ended-in-None.ensures.book
-    ∙ settled_accepted c.args.self.now.book.balances c.args.job.now.value c.in_ok-ended-in-None.ended.job c.in-Accepted.account decided c.in_ok-ended-in-None.ensures.same
+    ∙ settled_accepted c.args.self.now.book.balances c.args.job.now.value c.in_ok-ended-in-None.ended.job c.in-Accepted.account decided c.in_ok-ended-in-None.ensures

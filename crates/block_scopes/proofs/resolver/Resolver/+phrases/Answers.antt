@@ -1,12 +1,17 @@
-use Rattle.std.proofs.Common.{◌+◌, suc, map, refl, ap, rules}
+use Rattle.std.proofs.Common.{◌+◌, suc, List, ◌∷◌, map, refl, sym, ap, subst, ◌∙◌, rules}
+use Rattle.std.specs.Option.{option_map}
+use Rattle.algolw_tree.specs.Tree as Tree
+use Rattle.algolw_tree.specs.declared.phrases.Formal.{Formal}
+use Rattle.algolw_tree.specs.declared.phrases.Phrase.{Phrase}
+use Rattle.algolw_tree.specs.declared.phrases.ProcDecl.{out-ProcDecl}
 use Rattle.algolw_tree.specs.Grammar.{phrases_of, links_of, lists_of, actuals_of, items_of, decls_of, bounds_of}
-use Rattle.algolw_tree.specs.View.{tree, link_tree, list_tree, actual_tree, item_tree, decl_tree, bound_tree, spec_tree, optional_tree}
-use Rattle.algolw_typing.specs.Naming.{phrases_naming, links_naming, lists_naming, actuals_naming, items_naming, bounds_naming, decls_naming, spec_uses}
-use Rattle.block_scopes.specs.Adding.{frame_view}
+use Rattle.algolw_tree.specs.View.{tree, link_tree, list_tree, actual_tree, item_tree, decl_tree, bound_tree, spec_tree, formal_tree, optional_tree}
+use Rattle.algolw_typing.specs.Naming.{phrases_naming, links_naming, lists_naming, actuals_naming, items_naming, bounds_naming, decls_naming, decl_naming, naming, use_at, scope_of, formal_names}
+use Rattle.block_scopes.specs.Adding.{Adds, frame_view}
 use Rattle.name_scopes.specs.Paths.{path_view}
-use Rattle.std.proofs.lemmas.Result.{on_ok_weaker}
-use Rattle.block_scopes.proofs.Added.{finish, adds_and}
-use Rattle.block_scopes.proofs.Arms.{by_naming, by_kind, by_listing, by_decl, controlled, for_step_naming, for_list_naming, range_inside}
+use Rattle.block_scopes.proofs.Added.{finish}
+use Rattle.block_scopes.proofs.Unnamed.{adds_none, behind_none, none_of_spec}
+use Rattle.block_scopes.proofs.Arms.{procedure_adds, procedure_is, by_naming, by_kind, by_listing, by_decl, controlled, for_step_naming, for_list_naming, range_inside}
 use Rattle.algolw_tree.proofs.Rows.{named_at, chain_at, case_value_at, case_do_at, for_step_at, for_list_at, block_at, actuals_at, array_at}
 use Rattle.algolw_tree.proofs.Sizes.{size, size_kind, size_phrases, size_links, size_lists, size_listing, size_actuals, size_actual, size_items, size_bounds, size_decls, size_decl, item_smaller}
 use Rattle.block_scopes.proofs.resolver.Resolver.+phrases.Goals as goal
@@ -67,11 +72,14 @@ decls-decl-requires t c =
 pub decls-returns : goal.decls-returns
 decls-returns t c = finish (λ xs. decls_naming (frame_view c.args.frame) (path_view c.args.around.now) (path_view c.args.path.now) (decls_of (map decl_tree xs))) refl c.args.decls.now c.loop-decl.decl-index c.args.self.now c.loop-decl.self c.loop-decl-test.false c.loop-decl.invariant
 
-pub phrase-named-requires : goal.phrase-named-requires
-phrase-named-requires t c = search (rules, ap size_kind (named_at _ _ c.in-Named.lists _ c.in-Named.is c.deref.ensures.value))
+pub phrase-lists-requires : goal.phrase-lists-requires
+phrase-lists-requires t c = search (rules, ap size_kind (named_at _ c.in-Named.field-0 c.in-Named.lists _ c.in-Named.is c.deref.ensures.value))
 
 pub phrase-returns-in-Named : goal.phrase-returns-in-Named
-phrase-returns-in-Named t c = by_kind c.named.result c.args.self.now c.named.new.self (frame_view c.args.frame) (path_view c.args.path.now) c.args.phrase.now.place _ _ (named_at _ _ c.in-Named.lists _ c.in-Named.is c.deref.ensures.value) c.named.ensures
+phrase-returns-in-Named t c =
+    let path = path_view c.args.path.now in
+    by_kind c.lists.result c.args.self.now c.lists.new.self (frame_view c.args.frame) path c.args.phrase.now.place _ _ (named_at _ c.in-Named.field-0 c.in-Named.lists _ c.in-Named.is c.deref.ensures.value)
+    (behind_none c.lists.result _ _ (use_at path c.in-Named.field-0 c.args.phrase.now.place) _ (record { names = refl; classes = refl }) c.lists.ensures)
 
 pub phrase-chain-requires : goal.phrase-chain-requires
 phrase-chain-requires t c = search (rules, ap size_kind (chain_at _ c.in-Chain.first c.in-Chain.links _ _ c.in-Chain.is c.deref-in-Chain.ensures c.deref-in-Chain-2.ensures.value))
@@ -118,9 +126,24 @@ pub list-returns-in-Actuals : goal.list-returns-in-Actuals
 list-returns-in-Actuals t c = by_listing c.actuals.result c.args.self.now c.actuals.new.self (frame_view c.args.frame) (path_view c.args.path.now) _ _ (actuals_at c.args.list.now.place _ c.in-Actuals.actuals _ c.in-Actuals.is c.deref.ensures.value) c.actuals.ensures
 
 pub decl-bounds-requires : goal.decl-bounds-requires
-decl-bounds-requires t c = search (rules, ap size_decl (array_at _ c.in-Array.spec c.in-Array.field-1 c.in-Array.bounds _ c.in-Array.is c.deref.ensures.value))
+decl-bounds-requires t c = search (rules, ap size_decl (array_at _ c.in-Array.field-0 c.in-Array.field-1 c.in-Array.bounds _ c.in-Array.is c.deref.ensures.value))
 
-pub decl-returns-in_ok-spec-in-Array : goal.decl-returns-in_ok-spec-in-Array
-decl-returns-in_ok-spec-in-Array t c =
-    by_decl c.bounds.result c.args.self.now c.bounds.new.self (frame_view c.args.frame) (path_view c.args.around.now) (path_view c.args.path.now) _ _ (array_at _ c.in-Array.spec c.in-Array.field-1 c.in-Array.bounds _ c.in-Array.is c.deref.ensures.value)
-    (on_ok_weaker c.bounds.result (adds_and c.args.self.now c.spec-in-Array.new.self c.bounds.new.self (spec_uses (path_view c.args.path.now) (spec_tree c.in-Array.spec)) _ c.in_ok-spec-in-Array.ensures) c.bounds.ensures)
+pub decl-returns-in-Array : goal.decl-returns-in-Array
+decl-returns-in-Array t c =
+    by_decl c.bounds.result c.args.self.now c.bounds.new.self (frame_view c.args.frame) (path_view c.args.around.now) (path_view c.args.path.now) _ _ (array_at _ c.in-Array.field-0 c.in-Array.field-1 c.in-Array.bounds _ c.in-Array.is c.deref.ensures.value)
+    (behind_none c.bounds.result _ _ _ _ (none_of_spec (path_view c.args.path.now) (spec_tree c.in-Array.field-0)) c.bounds.ensures)
+
+pub decl-returns-in-Simple : goal.decl-returns-in-Simple
+decl-returns-in-Simple t c = rw c.in-Simple.is (adds_none c.args.self.now _ (none_of_spec (path_view c.args.path.now) (spec_tree c.in-Simple.field-0)))
+
+pub procedure-returns : goal.procedure-returns
+procedure-returns t c =
+    let frame = frame_view c.args.frame in
+    let path = path_view c.args.path.now in
+    let own = out-ProcDecl c.args.procedure.now in
+    let scope = c.in_ok-scope.scope in
+    let body =
+    subst (λ (x : Phrase). Adds c.declares.new.self c.phrase.new.self (naming (frame_view c.in_ok-inner.inner) (scope_of scope ∷ path) (tree x))) c.deref-2.ensures c.in_ok-phrase.ensures in
+    let names = c.in_ok-scope.ensures ∙ ap (λ (formals : List Formal). formal_names (map formal_tree formals)) c.deref.ensures.value in
+    subst (λ (d : Tree.Decl). Adds c.args.self.now c.phrase.new.self (decl_naming frame path path d)) (sym (procedure_is c.args.procedure.now))
+    (procedure_adds _ _ _ frame (frame_view c.in_ok-of_procedure.field-0) (frame_view c.in_ok-inner.inner) path (option_map spec_tree own.result) (map formal_tree own.formals.items) scope (tree own.body.value) c.in_ok-of_procedure.ensures names c.in_ok-inner.ensures.inner c.in_ok-inner.ensures.adds body)

@@ -11,17 +11,11 @@ use Rattle.block_scopes.proofs.resolver.Resolver.+phrases.Given as goal
 abbrev pub decreases-phrase : goal.decreases-phrase
 decreases-phrase l = size (tree l.phrase.now)
 
-abbrev pub decreases-named : goal.decreases-named
-decreases-named l = suc (size_lists (lists_of (map list_tree l.lists.now)))
-
 abbrev pub decreases-both : goal.decreases-both
 decreases-both l = suc (size (tree l.left.now) + size (tree l.right.now))
 
 abbrev pub decreases-chain : goal.decreases-chain
 decreases-chain l = suc (size (tree l.first.now) + size_links (links_of (map link_tree l.links.now)))
-
-abbrev pub decreases-is_class : goal.decreases-is_class
-decreases-is_class l = suc (size (tree l.operand.now))
 
 abbrev pub decreases-conditional : goal.decreases-conditional
 decreases-conditional l = suc (size (tree l.condition.now) + size (tree l.then.now) + size_perhaps (optional_tree l.otherwise.now))

@@ -7,6 +7,6 @@ use Rattle.record_store.proofs.fields.Fields.new.Goals as goal
 
 pub returns : goal.returns
 returns c =
-    ap (λ (slots : List Slot). values_of slots c.in_ok-vec-2.field-0.items) (c.in_ok-vec.ensures.items_if_clones_equal (λ y same. same))
-    ∙ ap (λ (texts : List (List ℕ)). values_of (replicate c.args.count Undefined) texts) (c.in_ok-vec-2.ensures.items_if_clones_equal (λ y same. same))
-    ∙ values_of-replicate c.args.count c.new.result
+    ap (λ (slots : List Slot). values_of slots c.reserve_exact.new.self.items) (c.in_ok-vec.ensures.items_if_clones_equal (λ y same. same))
+    ∙ ap (λ (texts : List (List ℕ)). values_of (replicate c.args.count Undefined) texts) (c.in_ok-reserve_exact.ensures.items ∙ c.new-texts.ensures.items)
+    ∙ values_of-replicate c.args.count

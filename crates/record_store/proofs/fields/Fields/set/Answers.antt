@@ -15,6 +15,6 @@ returns c =
           rw (w.self-inside-is, w.slot-is, w.in-Integer.is) (set_alone _ _ _ _ _ _ c.self.view_is (λ text. ap (λ (number : ℤ). let v = value.Integer number in Some v) (to_z-of_z w32 w.in-Integer.number fits)))
       | in-Logical w ↦ rw (w.self-inside-is, w.slot-is, w.in-Logical.is) (set_alone _ _ _ _ _ _ c.self.view_is (λ text. refl))
       | in-Bits w ↦ rw (w.self-inside-is, w.slot-is, w.in-Bits.is) (set_alone _ _ _ _ _ _ c.self.view_is (λ text. refl))
-      | in-Str w ↦ rw (w.self-inside-is, w.slot-is, w.in-Str.is) (set_both _ _ _ _ _ _ c.self.view_is)
+      | in-Str w ↦ rw (w.self-inside-is, w.slot-is, w.in-Str.is) (set_both _ _ _ _ _ _ _ c.self.view_is w.put_text.ensures.put)
       | in-Reference w ↦ rw (w.self-inside-is, w.slot-is, w.in-Reference.is) (set_alone _ _ _ _ _ _ c.self.view_is (λ text. refl))
     ]

@@ -13,7 +13,7 @@ returns c =
     let next = take first held.items ++ (c.fill.new.self ++ drop n (drop first held.items)) in
     let undefined = rw c.deref_mut.ensures.value at (c.fill.ensures.after (λ y same. same)) in
     let all : n ≡ c.args.count = omega arith in
-    let long = part_kept_long _ _ _ _ _ _ _ c.self.view_is c.self.invariant c.requires all undefined ∙ sym held.ok.0 in
+    let long = part_kept_long _ _ _ _ _ _ _ c.self.view_is c.requires all undefined ∙ sym held.ok.0 in
     rw c.deref_mut.ensures.value (
     ap (λ (slots : List Slot). values_of slots c.self.inside.texts.items) (with_items_is held next long)
-    ∙ part_undefined _ _ _ _ _ _ _ c.self.view_is c.self.invariant c.requires all undefined)
+    ∙ part_undefined _ _ _ _ _ _ _ c.self.view_is c.requires all undefined)

@@ -1,0 +1,7 @@
+use Rattle.std.proofs.Common.{ap, ◌∙◌, length}
+use Rattle.std.proofs.lemmas.List.{take-replicate}
+use Rattle.short_text.specs.Order.{bytes_cmp}
+use Rattle.machine_rows.proofs.operators.compared_to_blanks.Goals as goal
+
+pub returns : goal.returns
+returns c = c.cmp.ensures ∙ ap (λ t. bytes_cmp c.args.rest.now t) (take-replicate (length c.args.rest.now) 256 32 c.requires)
