@@ -4,8 +4,8 @@ ghost use Rattle.cell_store.specs.Cells.{a_word, a_wide, word_in, wide_in, text_
 ghost use Rattle.cell_store.specs.Held.{beside_at};
 ghost use Rattle.value_ops.specs.Strings.{filled};
 
-use crate::cells::{Slot, Wide, Word};
-use crate::items::{item_at, ref_at};
+use crate::cells::{Wide, Word};
+use crate::items::{item_at, item_there, ref_at};
 use std::alloc::{AllocError, Global};
 use std::marker::Model;
 
@@ -13,8 +13,9 @@ use std::marker::Model;
 /// memory.
 #[derive(Drop)]
 pub(crate) struct Shelf {
-    slots: Vec<Slot>,
-    /// What is too wide for its slot, at the number of its cell; made as far as it was needed.
+    /// The words; none where what the cell holds stands beside.
+    words: Vec<Option<Word>>,
+    /// What is too wide for a word, at the number of its cell; made as far as it was needed.
     beside: Vec<Wide>,
     room: u32,
 }
@@ -27,9 +28,9 @@ impl Model for Shelf {
 
     ghost use Rattle.cell_store.specs.Held.{cells, Shelved};
 
-    ghost view = { λ s. record { cells = cells s.slots.items s.beside.items; room = s.room } };
+    ghost view = { λ s. record { cells = cells s.words.items s.beside.items; room = s.room } };
 
-    ghost invariant = { λ s. Shelved s.slots.items s.beside.items s.room (vec_capacity s.slots) (vec_capacity s.beside) };
+    ghost invariant = { λ s. Shelved s.words.items s.beside.items s.room (vec_capacity s.words) (vec_capacity s.beside) };
 }
 
 impl Shelf {
@@ -38,7 +39,7 @@ impl Shelf {
         ensures { result ≡ record { cells = []; room = 0 } }
     {
         Shelf {
-            slots: Vec::new(alloc),
+            words: Vec::new(alloc),
             beside: Vec::new(alloc),
             room: 0,
         }
@@ -55,7 +56,7 @@ impl Shelf {
         }
         self.beside
             .reserve_exact(room as usize - self.beside.len())?;
-        self.slots.reserve_exact(room as usize - self.slots.len())?;
+        self.words.reserve_exact(room as usize - self.words.len())?;
         self.room = room;
         Ok(())
     }
@@ -67,7 +68,7 @@ impl Shelf {
         ensures count { result ≡ length self.now.cells }
         ensures within { result ≤ self.now.room }
     {
-        self.slots.len() as u32
+        self.words.len() as u32
     }
 
     /// For how many there is room.
@@ -84,7 +85,17 @@ impl Shelf {
     pub fn word(&self, at: u32) -> Option<Word>
         ensures { result ≡ option_and_then word_in (slice_get self.now.cells at) }
     {
-        item_at(&self.slots, at as usize)?.word()
+        item_at(&self.words, at as usize)?
+    }
+
+    /// What a cell that is there holds, where that is a word.
+    #[inline(always)]
+    #[tactic(auto, using(crate::proofs::CellLines::length_cells, crate::proofs::CellLines::word_there))]
+    pub fn word_there(&self, at: u32) -> Option<Word>
+        requires { at < length self.now.cells }
+        ensures { result ≡ option_and_then word_in (slice_get self.now.cells at) }
+    {
+        item_there(&self.words, at as usize)
     }
 
     /// What a cell holds, where that is wide.
@@ -93,7 +104,7 @@ impl Shelf {
     pub fn wide(&self, at: u32) -> Option<&Wide>
         ensures { option_copied result ≡ option_and_then wide_in (slice_get self.now.cells at) }
     {
-        if item_at(&self.slots, at as usize)?.is_beside() {
+        if item_at(&self.words, at as usize)?.is_none() {
             ref_at(&self.beside, at as usize)
         } else {
             None
@@ -107,7 +118,7 @@ impl Shelf {
         requires { length self.old.cells < self.old.room }
         ensures { self.new ≡ record self.old { cells = self.old.cells ++ a_word held ∷ [] } }
     {
-        self.slots.push_reserved(Slot::of(held));
+        self.words.push_reserved(Some(held));
     }
 
     /// A cell more, which holds this.
@@ -116,10 +127,10 @@ impl Shelf {
         requires { length self.old.cells < self.old.room }
         ensures { self.new ≡ record self.old { cells = self.old.cells ++ a_wide held.now ∷ [] } }
     {
-        let at = self.slots.len();
+        let at = self.words.len();
         fill_up(&mut self.beside, at + 1);
         self.beside[at].copy_from(held);
-        self.slots.push_reserved(Slot::Beside);
+        self.words.push_reserved(None);
     }
 
     /// So many cells more, which hold nothing.
@@ -134,27 +145,27 @@ impl Shelf {
 
     /// The cell of this number holds this from now on.
     #[inline(always)]
-    #[tactic(auto, using(crate::proofs::CellLines::length_cells, crate::proofs::CellLines::cells_set, crate::proofs::CellLines::beside_set, crate::proofs::CellLines::length_set_slots))]
+    #[tactic(auto, using(crate::proofs::CellLines::length_cells, crate::proofs::CellLines::cells_set, crate::proofs::CellLines::beside_set, crate::proofs::CellLines::length_set_words))]
     pub fn set(&mut self, at: u32, held: Word)
         requires { at < length self.old.cells }
         ensures { self.new ≡ record self.old { cells = slice_set self.old.cells at (a_word held) } }
     {
-        self.slots[at as usize] = Slot::of(held);
+        self.words[at as usize] = Some(held);
     }
 
     /// The cell of this number holds this from now on.
-    #[tactic(auto, using(crate::proofs::CellLines::length_cells, crate::proofs::CellLines::cells_set_wide, crate::proofs::CellLines::beside_set_wide, crate::proofs::CellLines::cells_more, crate::proofs::CellLines::beside_more, crate::proofs::CellLines::length_set_beside, crate::proofs::CellLines::length_set_slots))]
+    #[tactic(auto, using(crate::proofs::CellLines::length_cells, crate::proofs::CellLines::cells_set_wide, crate::proofs::CellLines::beside_set_wide, crate::proofs::CellLines::cells_more, crate::proofs::CellLines::beside_more, crate::proofs::CellLines::length_set_beside, crate::proofs::CellLines::length_set_words))]
     pub fn set_wide(&mut self, at: u32, held: &Wide)
         requires { at < length self.old.cells }
         ensures { self.new ≡ record self.old { cells = slice_set self.old.cells at (a_wide held.now) } }
     {
         fill_up(&mut self.beside, at as usize + 1);
         self.beside[at as usize].copy_from(held);
-        self.slots[at as usize] = Slot::Beside;
+        self.words[at as usize] = None;
     }
 
     /// The cell of this number holds a string of these characters from now on, filled with blanks to a length.
-    #[tactic(auto, using(crate::proofs::CellLines::length_cells, crate::proofs::CellLines::cells_set_wide, crate::proofs::CellLines::beside_set_wide, crate::proofs::CellLines::cells_more, crate::proofs::CellLines::beside_more, crate::proofs::CellLines::length_set_beside, crate::proofs::CellLines::length_set_slots))]
+    #[tactic(auto, using(crate::proofs::CellLines::length_cells, crate::proofs::CellLines::cells_set_wide, crate::proofs::CellLines::beside_set_wide, crate::proofs::CellLines::cells_more, crate::proofs::CellLines::beside_more, crate::proofs::CellLines::length_set_beside, crate::proofs::CellLines::length_set_words))]
     pub fn set_text(&mut self, at: u32, characters: &[u8], count: u16)
         requires there { at < length self.old.cells }
         requires few { length characters.now ≤ 256 }
@@ -163,7 +174,7 @@ impl Shelf {
     {
         fill_up(&mut self.beside, at as usize + 1);
         self.beside[at as usize].set_filled(characters, count);
-        self.slots[at as usize] = Slot::Beside;
+        self.words[at as usize] = None;
     }
 
     /// Characters of the string in a cell, from a place on, become these. False exactly where the cell holds no string
@@ -174,7 +185,7 @@ impl Shelf {
         ensures written { IfSome (option_and_then (text_over from characters.now) (option_and_then wide_in (slice_get self.old.cells at))) (λ s. self.new ≡ record self.old { cells = slice_set self.old.cells at (a_wide (Wide.Str s)) }) }
         ensures unchanged { result ≡ false → self.new ≡ self.old }
     {
-        if !is_beside_at(&self.slots, at as usize) {
+        if !is_beside_at(&self.words, at as usize) {
             return false;
         }
         self.beside[at as usize].overwrite(from, characters)
@@ -186,17 +197,17 @@ impl Shelf {
     pub fn cut(&mut self, kept: u32)
         ensures { self.new ≡ record self.old { cells = take kept self.old.cells } }
     {
-        self.slots.truncate(kept as usize);
+        self.words.truncate(kept as usize);
     }
 }
 
 /// Whether what the cell of this number holds stands beside.
 #[inline(always)]
-fn is_beside_at(slots: &[Slot], at: usize) -> bool
-    ensures { result ≡ beside_at slots.now at }
+fn is_beside_at(words: &[Option<Word>], at: usize) -> bool
+    ensures { result ≡ beside_at words.now at }
 {
-    match item_at(slots, at) {
-        Some(slot) => slot.is_beside(),
+    match item_at(words, at) {
+        Some(word) => word.is_none(),
         None => false,
     }
 }

@@ -129,12 +129,21 @@ impl Store {
         self.cells.len()
     }
 
-    /// What a live cell holds, where that is a word.
+    /// What a cell holds, where it is live and that is a word.
     #[inline(always)]
     pub fn cell(&self, at: u32) -> Option<Word>
         ensures { result ≡ option_and_then word_in (slice_get self.now.cells at) }
     {
         self.cells.word(at)
+    }
+
+    /// What a cell that is live holds, where that is a word.
+    #[inline(always)]
+    pub fn live_cell(&self, at: u32) -> Option<Word>
+        requires { at < length self.now.cells }
+        ensures { result ≡ option_and_then word_in (slice_get self.now.cells at) }
+    {
+        self.cells.word_there(at)
     }
 
     /// What a live cell holds, where that is wide.
@@ -249,10 +258,11 @@ impl Store {
 
     /// An entry, by its number.
     #[inline(always)]
-    pub fn entry(&self, at: u32) -> Option<Entry>
-        ensures { result ≡ slice_get self.now.entries at }
+    pub fn entry(&self, at: usize) -> Entry
+        requires { at < length self.now.entries }
+        ensures { slice_get self.now.entries at ≡ Some result }
     {
-        self.entries.get(at as usize).copied()
+        self.entries[at]
     }
 
     /// An entry more. It is refused exactly where there is no room.
@@ -295,10 +305,11 @@ impl Store {
 
     /// The frame of a text under way, by its number.
     #[inline(always)]
-    pub fn frame(&self, at: u32) -> Option<&Frame>
-        ensures { option_copied result ≡ slice_get self.now.frames at }
+    pub fn frame(&self, at: u32) -> &Frame
+        requires { at < length self.now.frames }
+        ensures { slice_get self.now.frames at ≡ Some result.now }
     {
-        self.frames.get(at as usize)
+        &self.frames[at as usize]
     }
 
     /// The frame of the newest text under way, where there is one.

@@ -1,4 +1,3 @@
-use crate::cells::Slot;
 use crate::{Descriptor, Entry, Frame, Mark, Part, Purpose, Refusal, Store, Variable, Wide, Word};
 use std::mem::size_of;
 use std::test::Fail;
@@ -312,10 +311,11 @@ fn enter_calls(store: &mut Store, count: u32) -> i32 {
 fn of_entries(store: &mut Store, call: &str, at: u32) -> Option<i32> {
     match call {
         "name" => Some(refused(store.push_entry(Entry::Name { name: at, cell: 0 }))),
-        "entry" => match store.entry(at) {
-            Some(Entry::Name { name, .. }) => Some(shown(name)),
+        "entry" if at < store.entry_count() => match store.entry(at as usize) {
+            Entry::Name { name, .. } => Some(shown(name)),
             _ => Some(NONE),
         },
+        "entry" => Some(NONE),
         "entries" => {
             store.cut_entries(at);
             Some(shown(store.entry_count()))
@@ -329,10 +329,8 @@ fn of_texts(store: &Store, call: &str, at: u32) -> Option<i32> {
     match call {
         "current" => Some(store.current().map_or(NONE, shown)),
         "depth" => Some(shown(store.depth())),
-        "frame" => match store.frame(at) {
-            Some(frame) => Some(frame.text.map_or(NONE, shown)),
-            None => Some(NONE),
-        },
+        "frame" if at < store.frame_count() => Some(store.frame(at).text.map_or(NONE, shown)),
+        "frame" => Some(NONE),
         "answer" => Some(word_number(store.answer(at))),
         "wide_answer" => Some(wide_number(store.wide_answer(at))),
         _ => None,
@@ -385,7 +383,7 @@ fn outcome(trial: &mut Trial, call: &str, numbers: &[i32]) -> Option<i32> {
 
 #[test]
 fn calls(rt: HostRuntime) -> Result<(), Fail> {
-    assert_eq!(rt; size_of::<Slot>(), 8);
+    assert_eq!(rt; size_of::<Option<Word>>(), 12);
     let store = Store::new(rt.alloc())?;
     let mut trial = Trial { store, array: None };
     for row in ROWS.lines() {

@@ -7,9 +7,10 @@ ghost use Rattle.typing_rules.specs.MeaningView as view;
 ghost use Rattle.declared_names.specs.KnownView.{entry_of};
 ghost use Rattle.declared_names.specs.KnownPaths.{path_view};
 ghost use Rattle.declared_names.specs.Seconds.{second_fault};
+ghost use Rattle.name_scopes.specs.Marks.{mark_of};
 
 use crate::standard::standard_known;
-use name_scopes::Scope;
+use name_scopes::{Scope, mark_of};
 use std::alloc::{AllocError, Global};
 use std::marker::Model;
 use typing_rules::{Meaning, Reading};
@@ -97,11 +98,12 @@ impl<'a> KnownScope<'a> {
         Ok(())
     }
 
-    /// The first declaration of a name.
-    pub fn find(&self, name: &Name) -> Option<Known<'a>>
+    /// The first declaration of a name with this mark.
+    fn find_marked(&self, name: &Name, mark: usize) -> Option<Known<'a>>
+        requires { mark ≡ mark_of name.now }
         ensures { option_map (entry_of name.now) result ≡ in_scope self.now name.now }
     {
-        match self.names.find(name) {
+        match self.names.find_marked(name, mark) {
             None => None,
             Some(position) => Some(self.known[position as usize]),
         }
@@ -144,12 +146,14 @@ impl<'s, 'a> KnownPath<'s, 'a> {
     pub fn declared(&self, name: &Name) -> Option<Known<'a>>
         ensures { option_map (entry_of name.now) result ≡ declared (path_view self.now) name.now }
     {
-        match self {
-            KnownPath::Standard => standard_known(name),
-            KnownPath::Inner(own, outer) => match own.find(name) {
-                Some(known) => Some(known),
-                None => outer.declared(name),
-            },
+        let mark = mark_of(name);
+        let mut path = self;
+        while let KnownPath::Inner(own, outer) = path {
+            if let Some(known) = own.find_marked(name, mark) {
+                return Some(known);
+            }
+            path = outer;
         }
+        standard_known(name)
     }
 }

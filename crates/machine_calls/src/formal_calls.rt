@@ -35,9 +35,7 @@ pub(crate) fn source_out(store: &Store, source: Source) -> Option<Wide>
             .wide_cell(cell_out(store, links, position))
             .copied(),
         Source::Head { links, head } => {
-            let Some(link) = text_out(store, u32::from(links)) else {
-                unreachable!()
-            };
+            let link = text_out(store, u32::from(links));
             Some(Wide::Procedure(Procedure { head, link }))
         }
     }

@@ -15,35 +15,22 @@ pub fn start_out(store: &Store, links: u16) -> u32
     let text = if links == 0 {
         store.current()
     } else {
-        let Some(text) = text_out(store, u32::from(links)) else {
-            unreachable!()
-        };
-        text
+        text_out(store, u32::from(links))
     };
     let Some(number) = text else {
         return 0;
     };
-    let Some(frame) = store.frame(number) else {
-        unreachable!()
-    };
-    frame.start
+    store.frame(number).start
 }
 
 /// The entry at a position of the text so many links out.
 #[inline(always)]
+#[tactic(auto, using(crate::proofs::Finding::entry_within))]
 pub fn entry_out(store: &Store, links: u16, position: u32) -> Entry
     requires { IsSome (named.entry_out store.now links position) }
     ensures { named.entry_out store.now links position ≡ Some result }
 {
-    let start = start_out(store, links);
-    let count = store.entry_count();
-    if position >= count || start >= count - position {
-        unreachable!()
-    }
-    let Some(entry) = store.entry(start + position) else {
-        unreachable!()
-    };
-    entry
+    store.entry(start_out(store, links) as usize + position as usize)
 }
 
 /// The cell of the name at a position of the text so many links out.
@@ -72,10 +59,7 @@ pub fn wanted(store: &Store, mode: Mode) -> Purpose
             let Some(number) = store.current() else {
                 unreachable!()
             };
-            let Some(frame) = store.frame(number) else {
-                unreachable!()
-            };
-            frame.purpose
+            store.frame(number).purpose
         }
     }
 }

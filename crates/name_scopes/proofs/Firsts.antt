@@ -1,14 +1,13 @@
 -- Where among names the first of each stands.
-use Rattle.std.proofs.Common.{◌≡◌, ℕ, zero, suc, ◌<◌, Bool, true, false, nat_lt, cond, take, List, [], ◌∷◌, ◌++◌, Option, Some, None, Result, Ok, Err, length, get_or, refl, sym, ap, subst, ◌∙◌, arith}
+use Rattle.std.proofs.Common.{◌≡◌, ℕ, zero, suc, ◌+◌, ◌<◌, ◌-◌, Bool, true, false, nat_lt, cond, take, List, [], ◌∷◌, ◌++◌, Option, Some, None, Result, Ok, Err, length, get_or, refl, sym, ap, subst, ◌∙◌, arith}
 use Rattle.std.proofs.lemmas.Bool.Decides.{nat_tests}
+use Rattle.std.proofs.Math.Seq.{take-append_seam}
 use Rattle.std.proofs.lemmas.Option.{same_Some}
-use Rattle.std.proofs.lemmas.Map.Text.{is_eq-slice_cmp}
 use Rattle.std.proofs.lemmas.Slice.Eq.{bytes_eq-Decides}
-use Rattle.std.specs.BTreeMap.{BTreeMap, get, is_at}
+use Rattle.std.specs.HashMap.{HashMap, get}
 use Rattle.std.specs.Option.{option_map, option_or, is_some}
-use Rattle.std.specs.Result.{is_err, OnOk}
+use Rattle.std.specs.Result.{is_err, OnErr, OnOk}
 use Rattle.std.specs.Str.{bytes_eq}
-use Rattle.short_text.specs.Order.{bytes_cmp}
 use Rattle.algolw_tree.specs.Tree.{Placed}
 use Rattle.algolw_typing.specs.Names.{in_scope}
 use Rattle.algolw_typing.specs.Naming.{scope_of, place_of}
@@ -41,11 +40,11 @@ kept_by false None n h = refl
 kept_by true None n h = let no = h refl in cc
 
 -- a name that was there keeps its first
-pub firsts-kept : (xs : List Placed) (x : Placed) (old : BTreeMap (List ℕ) ℕ) → Firsts xs old → is_some (get bytes_cmp old x.0) ≡ true → Firsts (xs ++ x ∷ []) old
+pub firsts-kept : {S : Type 0} (xs : List Placed) (x : Placed) (old : HashMap (List ℕ) ℕ S) → Firsts xs old → is_some (get bytes_eq old x.0) ≡ true → Firsts (xs ++ x ∷ []) old
 firsts-kept xs x old f there = record {
   at = λ q.
       f.at q
-      ∙ sym (first_of-push xs x q ∙ kept_by (bytes_eq x.0 q) (first_of xs q) (length xs) (λ h. ap is_some (sym (f.at q)) ∙ ap (λ r. is_some (get bytes_cmp old r)) (sym ((bytes_eq-Decides x.0 q).0 h)) ∙ there));
+      ∙ sym (first_of-push xs x q ∙ kept_by (bytes_eq x.0 q) (first_of xs q) (length xs) (λ h. ap is_some (sym (f.at q)) ∙ ap (λ r. is_some (get bytes_eq old r)) (sym ((bytes_eq-Decides x.0 q).0 h)) ∙ there));
 }
 
 pub new_by : (same : Bool) (p : Option ℕ) (n : ℕ) → (same ≡ true → p ≡ None) → cond same (Some n) p ≡ option_or p (cond same (Some n) None)
@@ -54,14 +53,13 @@ new_by false None n h = refl
 new_by false (Some m) n h = refl
 
 -- a name that was not there stands first at the end
-pub firsts-new : (xs : List Placed) (x : Placed) (n : ℕ) (old new : BTreeMap (List ℕ) ℕ) → Firsts xs old → get bytes_cmp old x.0 ≡ None → n ≡ length xs
-    → ((q : List ℕ) → get bytes_cmp new q ≡ cond (is_at (bytes_cmp x.0) q) (Some n) (get bytes_cmp old q))
+pub firsts-new : {S : Type 0} (xs : List Placed) (x : Placed) (n : ℕ) (old new : HashMap (List ℕ) ℕ S) → Firsts xs old → get bytes_eq old x.0 ≡ None → n ≡ length xs
+    → ((q : List ℕ) → get bytes_eq new q ≡ cond (bytes_eq x.0 q) (Some n) (get bytes_eq old q))
     → Firsts (xs ++ x ∷ []) new
 firsts-new xs x n old new f none long is = record {
   at = λ q.
       is q
-      ∙ ap (λ (b : Bool). cond b (Some n) (get bytes_cmp old q)) (is_eq-slice_cmp x.0 q)
-      ∙ new_by (bytes_eq x.0 q) (get bytes_cmp old q) n (λ h. ap (get bytes_cmp old) (sym ((bytes_eq-Decides x.0 q).0 h)) ∙ none)
+      ∙ new_by (bytes_eq x.0 q) (get bytes_eq old q) n (λ h. ap (get bytes_eq old) (sym ((bytes_eq-Decides x.0 q).0 h)) ∙ none)
       ∙ ap (λ (p : Option ℕ). option_or p (cond (bytes_eq x.0 q) (Some n) None)) (f.at q)
       ∙ ap (λ (m : ℕ). option_or (first_of xs q) (cond (bytes_eq x.0 q) (Some m) None)) long
       ∙ sym (first_of-push xs x q);
@@ -105,6 +103,16 @@ none_there (Some a) h = cc
 pub where_ok : {T E : Type 0} (r : Result T E) (P : Type 0) → false ≡ is_err r → OnOk r P → P
 where_ok (Ok x) P h p = p
 where_ok (Err e) P h p = cc
+
+pub where_err : {T E : Type 0} (r : Result T E) (P : Type 0) → true ≡ is_err r → OnErr r P → P
+where_err (Err e) P h p = p
+where_err (Ok x) P h p = cc
+
+-- what was put at the end is taken away
+pub popped : (xs ys zs : List Placed) (x : Placed) (n : ℕ) → n ≡ length xs + 1 → ys ≡ xs ++ x ∷ [] → zs ≡ take (n - 1) ys → zs ≡ xs
+popped xs ys zs x n long pushed is =
+    let before : n - 1 ≡ length xs = omega arith in
+    is ∙ ap (λ (m : ℕ). take m ys) before ∙ ap (take (length xs)) pushed ∙ take-append_seam xs (x ∷ [])
 
 -- a name stands in front of a position where its first does
 abbrev pub in_front : Option ℕ → ℕ → Bool

@@ -1,9 +1,8 @@
 -- Where among names the first of each stands, and what a map of these holds to.
-use Rattle.std.specs.BTreeMap.{BTreeMap, get}
+use Rattle.std.specs.HashMap.{HashMap, get}
 use Rattle.std.specs.Option.{option_map}
 use Rattle.std.specs.Prelude.{◌≡◌, ℕ, suc, List, [], ◌∷◌, Option, Some, None, true, false}
 use Rattle.std.specs.Str.{bytes_eq}
-use Rattle.short_text.specs.Order.{bytes_cmp}
 use Rattle.algolw_tree.specs.Tree.{Placed}
 
 -- where among names that are placed the first of this name stands
@@ -12,5 +11,5 @@ first_of [] x = None
 first_of (y ∷ ys) x = elim (bytes_eq y.0 x) [ true ↦ Some 0 | false ↦ option_map suc (first_of ys x) ]
 
 -- where among names each stands first
-pub record Firsts (names : List Placed) (first : BTreeMap (List ℕ) ℕ) : Type 0 where
-  pub at : (x : List ℕ) → get bytes_cmp first x ≡ first_of names x
+pub record Firsts {S : Type 0} (names : List Placed) (first : HashMap (List ℕ) ℕ S) : Type 0 where
+  pub at : (x : List ℕ) → get bytes_eq first x ≡ first_of names x

@@ -1,3 +1,4 @@
 pub mod Firsts
+pub mod Marks
 pub mod Paths
 pub mod Standards

@@ -1,10 +1,13 @@
 //! Scopes in which a name is found fast: which declaration each name means along them.
 #![tactic(auto)]
 
+mod key;
+mod marks;
 mod path;
 mod scope;
 mod standard;
 
+pub use marks::mark_of;
 pub use path::ScopePath;
 pub use scope::Scope;
 pub use standard::STANDARD_NAMES;

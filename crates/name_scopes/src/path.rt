@@ -3,6 +3,7 @@ ghost use Rattle.algolw_typing.specs.Names.{declared};
 ghost use Rattle.algolw_typing.specs.Naming.{place_of};
 ghost use Rattle.name_scopes.specs.Paths.{path_view};
 
+use crate::marks::mark_of;
 use crate::scope::Scope;
 use crate::standard::standard_place;
 use value_ops::{Name, Place};
@@ -21,12 +22,14 @@ impl ScopePath<'_> {
     pub fn declared(&self, name: &Name) -> Option<Place>
         ensures { result ≡ place_of (declared (path_view self.now) name.now) }
     {
-        match self {
-            ScopePath::Standard => standard_place(name),
-            ScopePath::Inner(own, outer) => match own.declared(name) {
-                Some(place) => Some(place),
-                None => outer.declared(name),
-            },
+        let mark = mark_of(name);
+        let mut path = self;
+        while let ScopePath::Inner(own, outer) = path {
+            if let Some(place) = own.declared(name, mark) {
+                return Some(place);
+            }
+            path = outer;
         }
+        standard_place(name)
     }
 }

@@ -3,9 +3,12 @@ ghost use Rattle.std.specs.Option.{is_some};
 ghost use Rattle.algolw_typing.specs.Names.{in_scope};
 ghost use Rattle.algolw_typing.specs.Naming.{scope_of, place_of};
 ghost use Rattle.name_scopes.specs.Firsts.{first_of};
+ghost use Rattle.name_scopes.specs.Marks.{mark_of};
 
+use crate::key::Key;
+use crate::marks::{MARKS, mark_of};
 use std::alloc::{AllocError, Global};
-use std::collections::BTreeMap;
+use std::collections::HashMap;
 use std::marker::Model;
 use value_ops::{Name, Place};
 
@@ -14,7 +17,9 @@ use value_ops::{Name, Place};
 pub struct Scope {
     names: Vec<(Name, Place)>,
     /// Where among the names each stands first.
-    first: BTreeMap<Name, u32>,
+    first: HashMap<Key, u32>,
+    /// Which marks they have.
+    marks: [bool; MARKS],
 }
 
 impl Model for Scope {
@@ -24,10 +29,11 @@ impl Model for Scope {
     ghost Value = { List Placed };
 
     ghost use Rattle.name_scopes.specs.Firsts.{Firsts};
+    ghost use Rattle.name_scopes.specs.Marks.{Marked};
 
     ghost view = { λ s. s.names.items };
 
-    ghost invariant = { λ s. Firsts s.names.items s.first };
+    ghost invariant = { λ s. Firsts s.names.items s.first × Marked s.names.items s.marks };
 }
 
 impl Scope {
@@ -37,7 +43,8 @@ impl Scope {
     {
         Scope {
             names: Vec::new(alloc),
-            first: BTreeMap::new(alloc),
+            first: HashMap::new(alloc),
+            marks: [false; MARKS],
         }
     }
 
@@ -49,9 +56,11 @@ impl Scope {
         let Ok(position) = u32::try_from(self.names.len()) else {
             return Err(AllocError);
         };
-        let is_new = !self.first.contains_key(&name);
+        let key = Key::new(&name);
+        let is_new = !self.first.contains_key(&key);
         self.names.push((name, place))?;
-        if is_new && self.first.insert(name, position).is_err() {
+        self.marks[mark_of(&name)] = true;
+        if is_new && self.first.insert(key, position).is_err() {
             self.names.pop();
             return Err(AllocError);
         }
@@ -76,7 +85,19 @@ impl Scope {
     pub fn find(&self, name: &Name) -> Option<u32>
         ensures { result ≡ first_of self.now name.now }
     {
-        self.first.get(name).copied()
+        self.first.get(&Key::new(name)).copied()
+    }
+
+    /// Where among its names the first one of a name with this mark stands.
+    pub fn find_marked(&self, name: &Name, mark: usize) -> Option<u32>
+        requires { mark ≡ mark_of name.now }
+        ensures { result ≡ first_of self.now name.now }
+    {
+        if self.marks[mark] {
+            self.find(name)
+        } else {
+            None
+        }
     }
 
     /// Whether it declares a name before this position.
@@ -89,11 +110,12 @@ impl Scope {
         }
     }
 
-    /// The place of the first declaration of a name.
-    pub fn declared(&self, name: &Name) -> Option<Place>
+    /// The place of the first declaration of a name with this mark.
+    pub fn declared(&self, name: &Name, mark: usize) -> Option<Place>
+        requires { mark ≡ mark_of name.now }
         ensures { result ≡ place_of (in_scope (scope_of self.now) name.now) }
     {
-        match self.find(name) {
+        match self.find_marked(name, mark) {
             None => None,
             Some(position) => Some(self.names[position as usize].1),
         }

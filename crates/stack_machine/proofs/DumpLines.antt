@@ -107,6 +107,17 @@ full_stays xs ys few full = sym (take-append-le 40 xs ys full ∙ take_all 40 xs
 pub nothing_more : {A : Type 0} (xs : List A) → length xs ≤ 40 → xs ≡ take 40 (xs ++ [])
 nothing_more xs few = sym (ap (take 40) (append-nil xs) ∙ take_all 40 xs few)
 
+-- what is no name has no line of one
+pub no_name_lines : (c : CodeView) (s : State) (e : Entry) → ((x k : ℕ) → e ≡ entry.Name x k → ⊥) → ((x k : ℕ) → e ≡ entry.ProcedureName x k → ⊥) → name_lines c s (e ∷ []) ≡ []
+no_name_lines c s (entry.Name x k) no_name no_procedure = absurd (no_name x k refl)
+no_name_lines c s (entry.ProcedureName x k) no_name no_procedure = absurd (no_procedure x k refl)
+no_name_lines c s (entry.Block p k) no_name no_procedure = refl
+no_name_lines c s (entry.Declared m) no_name no_procedure = refl
+no_name_lines c s (entry.Turn p k) no_name no_procedure = refl
+no_name_lines c s (entry.Call k p) no_name no_procedure = refl
+no_name_lines c s (entry.Actual k) no_name no_procedure = refl
+no_name_lines c s entry.Aside no_name no_procedure = refl
+
 pub length_take_most : {A : Type 0} (k : ℕ) (xs : List A) → length (take k xs) ≤ k
 length_take_most zero xs = omega arith
 length_take_most (suc k) [] = omega arith

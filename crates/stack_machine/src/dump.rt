@@ -66,13 +66,13 @@ fn shown_mark(state: &State, code: &Code, number: u32) -> Option<post_mortem::En
     ensures dimensions { IfSome result (λ l. IfShown l DimensionsFit) }
     ensures no_record { IfSome result (λ l. IfShown l IsNoRecord) }
 {
-    match state.store.entry(number) {
-        Some(Entry::Block { place, .. }) => Some(post_mortem::Entry::Block(place)),
-        Some(Entry::Turn { place, .. }) => Some(post_mortem::Entry::For(place)),
-        Some(Entry::Call { head, site }) => {
+    match state.store.entry(number as usize) {
+        Entry::Block { place, .. } => Some(post_mortem::Entry::Block(place)),
+        Entry::Turn { place, .. } => Some(post_mortem::Entry::For(place)),
+        Entry::Call { head, site } => {
             Some(post_mortem::Entry::Call(procedure_name(code, head), site))
         }
-        Some(Entry::Actual { head }) => Some(post_mortem::Entry::Actual(text_place(code, head))),
+        Entry::Actual { head } => Some(post_mortem::Entry::Actual(text_place(code, head))),
         _ => None,
     }
 }
@@ -128,12 +128,12 @@ fn dump_name(lines: &mut Vec<Line>, state: &State, code: &Code, number: u32)
     ensures added { IfSome (slice_get state.now.store.entries number) (λ e.
         lines.new.items ≡ take 40 (lines.old.items ++ map dump_text (dumped.name_lines code.now state.now (e ∷ [])))) }
 {
-    match state.store.entry(number) {
-        Some(Entry::Name { name, cell }) => {
+    match state.store.entry(number as usize) {
+        Entry::Name { name, cell } => {
             let shown = shown_cell(state, code, cell);
             add_name(lines, code, name, shown);
         }
-        Some(Entry::ProcedureName { name, .. }) => add_name(lines, code, name, Shown::Procedure),
+        Entry::ProcedureName { name, .. } => add_name(lines, code, name, Shown::Procedure),
         _ => {}
     }
 }

@@ -1,4 +1,4 @@
-use Rattle.std.proofs.Common.{◌≡◌, ◌+◌, ◌∷◌, ◌++◌, suc, List, IfOk, length, map, refl, sym, ap, subst, ◌∙◌, rules}
+use Rattle.std.proofs.Common.{◌≡◌, ◌+◌, ◌∷◌, ◌++◌, suc, List, IfOk, length, map, refl, sym, ap, subst, ◌∙◌, arith, rules}
 use Rattle.std.proofs.lemmas.Result.{IfOk-weaker}
 use Rattle.std.specs.Option.{option_map}
 use Rattle.algolw_tree.specs.declared.phrases.Phrase.{Phrase}
@@ -19,7 +19,7 @@ use Rattle.declared_names.specs.KnownPaths.{path_view}
 use Rattle.typed_phrases.specs.declared.making.Typed.{Typed}
 use Rattle.phrase_checker.specs.Checked.{DeclsChecked}
 use Rattle.phrase_checker.proofs.BlockFound.{block_found, procedure_found}
-use Rattle.phrase_checker.proofs.BlockSteps.{bounds_step, meanings_step, kept_step, decls_step, decls_end, own_bounds, items_step, last_item}
+use Rattle.phrase_checker.proofs.BlockSteps.{as_many, bounds_step, meanings_step, kept_step, decls_step, decls_end, own_bounds, items_step, last_item}
 use Rattle.declared_names.proofs.Bounding.{array_found, bounds_kept, procedure_is}
 use Rattle.phrase_checker.proofs.ForSteps.{range_checked, list_checked}
 use Rattle.phrase_checker.proofs.ListSteps as lists
@@ -167,6 +167,9 @@ pub actual-returns-in_ok-add-in-Phrase : goal.actual-returns-in_ok-add-in-Phrase
 actual-returns-in_ok-add-in-Phrase t c =
     lists.actual_checked (path_view c.args.path.now) (wanted c.args.wanted) (actual_tree c.args.actual.now) (tree_of c.in-Phrase.phrase) c.args.self.now c.inside.new.self c.note.new.self c.in_ok-typed-in-Phrase.typed c.in_ok-given-in-Phrase.given c.args.found.now c.add.new.self
     (ap actual_tree c.in-Phrase.is) c.in_ok-typed-in-Phrase.ensures c.in_ok-given-in-Phrase.ensures c.in_ok-note-in-Phrase.ensures c.in_ok-add-in-Phrase.ensures.parts c.in_ok-add-in-Phrase.ensures.drafts
+
+pub block-decls-requires : goal.block-decls-requires
+block-decls-requires t c = (omega arith, as_many _ _ _ c.in_ok-bounds.ensures.bounds)
 
 pub block-returns : goal.block-returns
 block-returns t c =

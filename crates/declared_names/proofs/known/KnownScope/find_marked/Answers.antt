@@ -2,7 +2,7 @@ use Rattle.std.proofs.Common.{◌≡◌, ◌<◌, length, ap, ◌∙◌, sym, ru
 use Rattle.algolw_typing.specs.Names.{in_scope}
 use Rattle.name_scopes.proofs.Firsts.{first_stands}
 use Rattle.declared_names.proofs.Knowing.{Entries, absent, found}
-use Rattle.declared_names.proofs.known.KnownScope.find.Goals as goal
+use Rattle.declared_names.proofs.known.KnownScope.find_marked.Goals as goal
 
 pub index-requires : goal.index-requires
 index-requires c =
