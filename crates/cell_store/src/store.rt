@@ -154,6 +154,14 @@ impl Store {
         self.cells.wide(at)
     }
 
+    /// Whether a cell more may be live.
+    #[inline(always)]
+    pub fn has_room(&self) -> bool
+        ensures { result ≡ nat_lt (length self.now.cells) 32768 }
+    {
+        self.cells.len() < MOST_CELLS
+    }
+
     /// A cell more, which holds this. L3 exactly where 32,768 are live.
     #[inline(always)]
     pub fn push(&mut self, held: Word) -> Result<(), Limit>

@@ -23,3 +23,4 @@ pub mod Bounded
 pub mod Declaring
 pub mod Filling
 pub mod Starred
+pub mod Integers

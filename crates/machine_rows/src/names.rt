@@ -1,8 +1,9 @@
-ghost use Rattle.std.specs.Prelude.{◌≡◌, IsSome, Some};
+ghost use Rattle.std.specs.Prelude.{◌≡◌, IfSome, IsSome, Some};
+ghost use Rattle.cell_store.specs.Cells.{a_word};
 ghost use Rattle.machine_rows.specs.Contents.{thunk_in};
 ghost use Rattle.machine_rows.specs.Names as named;
 
-use cell_store::{Closed, Entry, Purpose, Store, Wide};
+use cell_store::{Closed, Entry, Purpose, Store, Wide, Word};
 use name_thunks::text_out;
 use stack_code::Mode;
 
@@ -72,5 +73,17 @@ pub fn thunk_out(store: &Store, links: u16, position: u32) -> Closed
     match store.wide_cell(cell_out(store, links, position)) {
         Some(Wide::Thunk(thunk)) => *thunk,
         _ => unreachable!(),
+    }
+}
+
+/// The integer that a variable has, where it has one.
+#[inline(always)]
+pub fn integer_out(store: &Store, links: u16, position: u32) -> Option<i32>
+    requires { IsSome (named.cell_out store.now links position) }
+    ensures { IfSome result (λ n. named.content_out store.now links position ≡ Some (a_word (Word.Integer n))) }
+{
+    match store.cell(cell_out(store, links, position)) {
+        Some(Word::Integer(number)) => Some(number),
+        _ => None,
     }
 }

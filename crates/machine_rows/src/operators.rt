@@ -171,7 +171,7 @@ fn operation(op: Op, left: Option<Word>, right: Held) -> Result<Held, Halt>
 
 /// An operation on two integers.
 #[inline(always)]
-fn integer_operation(op: Op, left: i32, right: i32) -> Result<Held, Halt>
+pub fn integer_operation(op: Op, left: i32, right: i32) -> Result<Held, Halt>
     requires { IsAnswered (operations.binary op (Value.Integer left) (Value.Integer right)) }
     ensures { (w : Wide) → answered w result ≡ operations.binary op (Value.Integer left) (Value.Integer right) }
 {
@@ -247,12 +247,20 @@ fn words_compared(op: RelOp, left: Word, right: Word) -> bool
     ensures { relation_words op left right ≡ gives (Value.Logical result) }
 {
     match (left, right) {
-        (Word::Integer(left), Word::Integer(right)) => holds(op, left.cmp(&right)),
+        (Word::Integer(left), Word::Integer(right)) => integers_compared(op, left, right),
         (Word::Logical(left), Word::Logical(right)) => holds_of_equals(op, left == right),
         (Word::Bits(left), Word::Bits(right)) => holds_of_equals(op, left == right),
         (Word::Reference(left), Word::Reference(right)) => holds_of_equals(op, left == right),
         _ => unreachable!(),
     }
+}
+
+/// A comparison of two integers.
+#[inline(always)]
+pub fn integers_compared(op: RelOp, left: i32, right: i32) -> bool
+    ensures { operations.relation op (Value.Integer left) (Value.Integer right) ≡ gives (Value.Logical result) }
+{
+    holds(op, left.cmp(&right))
 }
 
 /// Whether a comparison holds where the operands stand so.

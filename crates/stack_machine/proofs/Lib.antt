@@ -14,3 +14,8 @@ pub mod RunShown
 pub mod Walks
 pub mod BoundsShown
 pub mod Preparing
+pub mod IntegerRows
+pub mod TextEnds
+pub mod AssignedRows
+pub mod FormalRows
+pub mod Kept

@@ -8,3 +8,6 @@ pub mod Running
 pub mod Runs
 pub mod Passing
 pub mod Desks
+pub mod Integers
+pub mod Returning
+pub mod Formals

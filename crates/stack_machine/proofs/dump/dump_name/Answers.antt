@@ -1,4 +1,4 @@
-use Rattle.std.proofs.Common.{◌≡◌, ◌++◌, ◌∷◌, [], Some, IfSome, map, take, sym, ap, ◌∙◌, subst}
+use Rattle.std.proofs.Common.{◌≡◌, ◌++◌, ◌∷◌, [], IfSome, map, take, sym, ap, ◌∙◌, subst}
 use Rattle.post_mortem.specs.Dump.{dump_text}
 use Rattle.stack_machine.specs.Dumped as dumped
 use Rattle.stack_machine.proofs.DumpLines.{nothing_more, no_name_lines}
