@@ -18,9 +18,10 @@ use Rattle.stack_code.specs.Run as table
 use Rattle.stack_code.specs.Run.{RunsTo, machine_of, normal, stopped}
 use Rattle.stack_code.proofs.Fit.{outcomes_are_one}
 use Rattle.phrase_code.specs.Coding.{program_code}
-use Rattle.stack_machine.specs.declared.desk.Outcome as machine
-use Rattle.stack_machine.specs.declared.desk.Outcome.TheVariants as outcome
-use Rattle.stack_machine.specs.Runs.{ComesTo, IsOutcome, Shown}
+use Rattle.joined_rows.specs.declared.outcome.Outcome as machine
+use Rattle.joined_rows.specs.declared.outcome.Outcome.TheVariants as outcome
+use Rattle.joined_rows.specs.Runs.{IsOutcome}
+use Rattle.stack_machine.specs.Runs.{ComesTo, Shown}
 use Rattle.algolw_meaning.specs.DeckDiagnostics.{Deck, IsProgram, deck_of}
 use Rattle.algolw_meaning.specs.Meaning.{JobResult, counts_of}
 use Rattle.algolw_meaning.specs.Running.{counted_lines, job_result, lines, program_outcome, setting_of}

@@ -6,8 +6,8 @@ use Rattle.account_book.specs.declared.charges.Counts.{Counts}
 use Rattle.program_meaning.specs.State.{by_fault, by_limit}
 use Rattle.program_meaning.specs.Results.{why_text}
 use Rattle.stack_code.specs.CodeView.{CodeView, statement_view}
-use Rattle.stack_machine.specs.declared.desk.Outcome.{Outcome}
-use Rattle.stack_machine.specs.declared.desk.Outcome.TheVariants as outcome
+use Rattle.joined_rows.specs.declared.outcome.Outcome.{Outcome}
+use Rattle.joined_rows.specs.declared.outcome.Outcome.TheVariants as outcome
 use Rattle.stack_machine.specs.Runs.{Shown}
 use Rattle.algolw_meaning.specs.Meaning.{counts_of}
 use Rattle.algolw_meaning.specs.Running.{counted_lines, lines}

@@ -1,13 +1,3 @@
-pub mod Counting
-pub mod Jumps
-pub mod Prepared
 pub mod Dumped
-pub mod Told
-pub mod Joined
-pub mod Running
-pub mod Runs
-pub mod Passing
 pub mod Desks
-pub mod Integers
-pub mod Returning
-pub mod Formals
+pub mod Runs

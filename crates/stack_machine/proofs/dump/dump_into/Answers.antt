@@ -1,7 +1,7 @@
 use Rattle.std.proofs.Common.{◌≡◌, ◌+◌, ◌-◌, ◌<◌, ◌≤◌, ◌++◌, [], ◌∷◌, suc, Some, None, length, map, take, slice_get, sym, ap, ◌∙◌, subst, arith}
 use Rattle.post_mortem.specs.Dump.{dump_text}
 use Rattle.stack_machine.specs.Dumped.{mark_line, name_lines, between}
-use Rattle.stack_machine.proofs.Cutting.{if_some_at}
+use Rattle.machine_control.proofs.Cutting.{if_some_at}
 use Rattle.stack_machine.proofs.DumpLines.{Shows, length_take_most, some_within, passed, shown_mark, shows_all, shows_end}
 use Rattle.stack_machine.proofs.dump.dump_into.Goals as goal
 

@@ -1,7 +1,7 @@
 use Rattle.std.proofs.Common.{◌≡◌, ◌<◌, ◌≤◌, ◌+◌, ◌++◌, [], ◌∷◌, suc, length, map, take, slice_get, sym, ap, ◌∙◌, subst, arith}
 use Rattle.post_mortem.specs.Dump.{dump_text}
 use Rattle.stack_machine.specs.Dumped as dumped
-use Rattle.stack_machine.proofs.Cutting.{if_some_at}
+use Rattle.machine_control.proofs.Cutting.{if_some_at}
 use Rattle.stack_machine.proofs.DumpLines.{names_none, names_over, names_more, some_within, length_take_most}
 use Rattle.stack_machine.proofs.dump.dump_names.Goals as goal
 
