@@ -1,13 +1,16 @@
-ghost use Rattle.std.specs.Prelude.{◌≡◌, map};
+ghost use Rattle.std.specs.Prelude.{◌≡◌, map, []};
 ghost use Rattle.std.specs.Option.{option_map};
 ghost use Rattle.algolw_tree.specs.declared.tokens.Symbol.TheVariants.{Comma, Semicolon};
-ghost use Rattle.algolw_tree.specs.View.{tree, spec_tree, link_tree, list_tree, actual_tree, bound_tree, item_tree, decl_tree};
+ghost use Rattle.algolw_tree.specs.View.{tree, spec_tree, link_tree, list_tree, actual_tree, bound_tree, part_tree, item_tree, decl_tree};
+ghost use Rattle.algolw_tree.specs.Tree as T;
+ghost use Rattle.algolw_grammar.specs.Readers.{read_made};
 ghost use Rattle.algolw_grammar.specs.Reading.{readers, read_perhaps, read_if, read_case, read_for, read_while, read_goto, read_assert, read_assignment, read_rel, read_neg, read_prim, read_block, read_decls, read_decl, read_procedure, read_bound, read_item, read_lists, read_listing, read_actual};
 ghost use Rattle.token_reader.specs.Gives.{Gives, boxed_tree, read_behind, read_given};
 ghost use Rattle.token_reader.specs.Levels.{read_first, read_operand, read_links_at, read_chain_at};
 
 use algolw_tree::{
-    Actual, Bound, Decl, Item, Kind, Link, List, ListKind, Phrase, ProcDecl, Symbol, TypeSpec, Word,
+    Actual, Bound, Decl, Item, Kind, Labelled, Link, List, ListKind, Part, Phrase, ProcDecl,
+    Spelling, Symbol, TypeSpec, Word,
 };
 use token_reader::{Level, Parser, Stop, inside, make};
 
@@ -20,20 +23,21 @@ pub fn perhaps(parser: &mut Parser<'_>, room: u32) -> Result<Box<Phrase>, Stop>
     if parser.at_phrase() {
         phrase(parser, room)
     } else {
-        Ok(Box::new(parser.alloc, parser.empty()?)?)
+        let place = parser.empty()?;
+        Ok(Box::new(parser.alloc, make::at(place, Kind::Empty))?)
     }
 }
 
 /// `[ phrase ]`, as it stands in a row.
 #[cycle(phrases)]
 #[tactic(auto, unfolding(algolw_grammar::specs::Reading::read_perhaps))]
-fn part(parser: &mut Parser<'_>, room: u32) -> Result<Phrase, Stop>
-    ensures { Gives tree result parser.new.rest.now (read_perhaps (readers room) parser.old.rest.now) }
+fn part(parser: &mut Parser<'_>, room: u32) -> Result<Part, Stop>
+    ensures { Gives part_tree result parser.new.rest.now (read_perhaps (readers room) parser.old.rest.now) }
 {
     if parser.at_phrase() {
-        unboxed(parser, room)
+        Ok(Part::Phrase(phrase(parser, room)?))
     } else {
-        parser.empty()
+        Ok(Part::Empty(parser.empty()?))
     }
 }
 
@@ -137,9 +141,9 @@ fn later_phrases(parser: &mut Parser<'_>, first: Phrase, room: u32) -> Result<Ve
 
 /// `{ ";" [ phrase ] }`, behind the first phrase.
 #[cycle(phrases)]
-fn later_parts(parser: &mut Parser<'_>, first: Phrase, room: u32) -> Result<Vec<Phrase>, Stop>
-    ensures { Gives (λ x. map tree x.items) result parser.new.rest.now
-        (read_behind (tree first) Semicolon (read_perhaps (readers room)) parser.old.rest.now) }
+fn later_parts(parser: &mut Parser<'_>, first: Part, room: u32) -> Result<Vec<Part>, Stop>
+    ensures { Gives (λ x. map part_tree x.items) result parser.new.rest.now
+        (read_behind (part_tree first) Semicolon (read_perhaps (readers room)) parser.old.rest.now) }
 {
     let mut parts = Vec::new(parser.alloc);
     parts.push(first)?;
@@ -158,14 +162,15 @@ fn iteration(parser: &mut Parser<'_>, room: u32) -> Result<Box<Phrase>, Stop>
     ensures { Gives boxed_tree result parser.new.rest.now (read_for (readers room) parser.old.rest.now) }
 {
     let place = parser.expect_word(Word::For)?;
-    let control = parser.expect_name()?;
+    let name = parser.expect_name()?;
+    let control = Spelling::new(parser.alloc, name.0)?;
     parser.expect_symbol(Symbol::Becomes)?;
     let start = unboxed(parser, room)?;
     if parser.at_values() {
         let values = later_phrases(parser, start, room)?;
         parser.expect_word(Word::Do)?;
         let body = perhaps(parser, room)?;
-        return Ok(Box::new(parser.alloc, make::for_list(place, control.0, values, body))?);
+        return Ok(Box::new(parser.alloc, make::for_list(place, control, values, body))?);
     }
     let start = Box::new(parser.alloc, start)?;
     if parser.at_word(Word::Step) {
@@ -175,14 +180,14 @@ fn iteration(parser: &mut Parser<'_>, room: u32) -> Result<Box<Phrase>, Stop>
         let limit = phrase(parser, room)?;
         parser.expect_word(Word::Do)?;
         let body = perhaps(parser, room)?;
-        let kind = Kind::ForStep(control.0, start, Some(step), limit, body);
+        let kind = Kind::ForStep(control, start, Some(step), limit, body);
         Ok(Box::new(parser.alloc, make::at(place, kind))?)
     } else {
         parser.expect_word(Word::Until)?;
         let limit = phrase(parser, room)?;
         parser.expect_word(Word::Do)?;
         let body = perhaps(parser, room)?;
-        let kind = Kind::ForStep(control.0, start, None, limit, body);
+        let kind = Kind::ForStep(control, start, None, limit, body);
         Ok(Box::new(parser.alloc, make::at(place, kind))?)
     }
 }
@@ -321,7 +326,8 @@ fn relation(parser: &mut Parser<'_>, room: u32) -> Result<Box<Phrase>, Stop>
     if parser.at_word(Word::Is) {
         let place = parser.expect_word(Word::Is)?;
         let class = parser.expect_name()?;
-        let kind = Kind::IsClass(left, class.0, class.1);
+        let name = Spelling::new(parser.alloc, class.0)?;
+        let kind = Kind::IsClass(left, name, class.1);
         Ok(Box::new(parser.alloc, Phrase { place, first, kind })?)
     } else if parser.at_comparison() {
         let (op, place) = parser.comparison()?;
@@ -356,7 +362,7 @@ fn primary(parser: &mut Parser<'_>, room: u32) -> Result<Box<Phrase>, Stop>
     } else if parser.at_name() {
         let name = parser.expect_name()?;
         let lists = lists(parser, room)?;
-        Ok(Box::new(parser.alloc, make::named(name, lists))?)
+        Ok(Box::new(parser.alloc, make::named(parser.alloc, name, lists)?)?)
     } else {
         Ok(Box::new(parser.alloc, parser.literal()?)?)
     }
@@ -389,14 +395,14 @@ fn listing(parser: &mut Parser<'_>, room: u32) -> Result<List, Stop>
         parser.expect_symbol(Symbol::Close)?;
         return Ok(make::actuals(place, actuals));
     }
-    let first = unboxed(parser, room)?;
+    let first = phrase(parser, room)?;
     if parser.at_symbol(Symbol::Bar) {
         parser.expect_symbol(Symbol::Bar)?;
         let length = parser.expect_number()?;
         parser.expect_symbol(Symbol::Close)?;
         Ok(List {
             place,
-            kind: ListKind::Part(Box::new(parser.alloc, first)?, length.0),
+            kind: ListKind::Part(first, length.0),
         })
     } else {
         let actuals = later_actuals(parser, Actual::Phrase(first), room)?;
@@ -430,7 +436,7 @@ fn actual(parser: &mut Parser<'_>, room: u32) -> Result<Actual, Stop>
     if parser.at_symbol(Symbol::Star) {
         Ok(Actual::Star(parser.expect_symbol(Symbol::Star)?))
     } else {
-        Ok(Actual::Phrase(unboxed(parser, room)?))
+        Ok(Actual::Phrase(phrase(parser, room)?))
     }
 }
 
@@ -471,8 +477,25 @@ fn item(parser: &mut Parser<'_>, room: u32) -> Result<Item, Stop>
     ensures { Gives item_tree result parser.new.rest.now (read_item (readers room) parser.old.rest.now) }
 {
     let labels = parser.labels()?;
-    let phrase = part(parser, room)?;
-    Ok(Item { labels, phrase })
+    if labels.is_empty() {
+        return unlabelled(parser, room);
+    }
+    let phrase = perhaps(parser, room)?;
+    Ok(Item::Labelled(Box::new(parser.alloc, Labelled { labels, phrase })?))
+}
+
+/// `[ phrase ]`, as an item without labels.
+#[cycle(phrases)]
+#[tactic(auto, unfolding(algolw_grammar::specs::Reading::read_perhaps))]
+fn unlabelled(parser: &mut Parser<'_>, room: u32) -> Result<Item, Stop>
+    ensures { Gives item_tree result parser.new.rest.now
+        (read_made (T.Labelled []) (read_perhaps (readers room)) parser.old.rest.now) }
+{
+    if parser.at_phrase() {
+        Ok(Item::Plain(phrase(parser, room)?))
+    } else {
+        Ok(Item::Empty(parser.empty()?))
+    }
 }
 
 /// `{ decl ";" }`

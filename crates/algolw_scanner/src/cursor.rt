@@ -1,8 +1,9 @@
-ghost use Rattle.std.specs.Prelude.{◌≡◌, ℕ, ◌+◌, ◌-◌, ◌<◌, ◌≤◌, List, [], ◌∷◌, ◌++◌, length};
+ghost use Rattle.std.specs.Prelude.{◌≡◌, ℕ, ◌+◌, ◌-◌, ◌<◌, ◌≤◌, List, [], ◌∷◌, ◌++◌, length, IfOk};
 ghost use Rattle.algolw_scanner.specs.Cursors.{Sound, Behind, IsNextCard, BehindSemicolon, IsNext};
 
 use crate::lexeme::{Lexeme, front};
 use algolw_tree::TokenKind;
+use std::alloc::{AllocError, Global};
 use value_ops::{Card, Diagnostic, Place};
 
 /// A place in a deck, with the rest of its card and the later cards.
@@ -89,32 +90,33 @@ impl<'a> Cursor<'a> {
     }
 
     /// The next piece of the text. Where it is a token, its kind is written down.
-    pub fn next_piece(self, kind: &mut TokenKind) -> Next<'a>
+    pub fn next_piece(self, alloc: Global, kind: &mut TokenKind) -> Result<Next<'a>, AllocError>
         requires { Sound self }
-        ensures { IsNext self.entry kind.new result }
+        ensures { IfOk result (λ next. IsNext self.entry kind.new next) }
     {
         if self.line.is_empty() {
             return match self.next_card() {
-                None => Next::Finished(Place {
+                None => Ok(Next::Finished(Place {
                     card: self.place.card + 1,
                     column: 1,
-                }),
-                Some(next) => Next::Skipped(next),
+                })),
+                Some(next) => Ok(Next::Skipped(next)),
             };
         }
-        match front(self.line, kind) {
-            Lexeme::Blank(rest) => Next::Skipped(self.past(rest)),
-            Lexeme::Token(rest) => Next::Token(self.past(rest)),
-            Lexeme::Fault(number) => Next::Fault(Diagnostic {
+        let found = front(alloc, self.line, kind)?;
+        match found {
+            Lexeme::Blank(rest) => Ok(Next::Skipped(self.past(rest))),
+            Lexeme::Token(rest) => Ok(Next::Token(self.past(rest))),
+            Lexeme::Fault(number) => Ok(Next::Fault(Diagnostic {
                 number,
                 place: self.place,
-            }),
+            })),
             Lexeme::Comment(rest) => match self.past(rest).after_semicolon() {
-                None => Next::Fault(Diagnostic {
+                None => Ok(Next::Fault(Diagnostic {
                     number: Diagnostic::COMMENT_NOT_CLOSED,
                     place: self.place,
-                }),
-                Some(next) => Next::Skipped(next),
+                })),
+                Some(next) => Ok(Next::Skipped(next)),
             },
         }
     }

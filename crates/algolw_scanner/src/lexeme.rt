@@ -1,4 +1,4 @@
-ghost use Rattle.std.specs.Prelude.{◌≡◌, ℕ, ◌<◌, ◌≤◌, length, map, if◌then◌else◌, nat_lt, Some, None, IsTrue, pos};
+ghost use Rattle.std.specs.Prelude.{◌≡◌, ℕ, ◌<◌, ◌≤◌, length, map, if◌then◌else◌, nat_lt, Some, None, IfOk, IsTrue, pos};
 ghost use Rattle.std.specs.List.{prefix_len, list_all};
 ghost use Rattle.std.specs.Char.{to_ascii_uppercase, is_ascii_digit, is_ascii_alphanumeric, is_ascii_hexdigit, digit_value};
 ghost use Rattle.algolw_tree.specs.Chars.{name_char, spoils, value_from, hex_from, are_bits};
@@ -8,7 +8,8 @@ ghost use Rattle.algolw_scanner.specs.Front.{bits_at, literal, quoted_at, front,
 ghost use Rattle.algolw_scanner.specs.Seen.{seen};
 
 use crate::words::word;
-use algolw_tree::{Literal, Symbol, TokenKind, Word};
+use algolw_tree::{Literal, Spelling, Symbol, TokenKind, Word};
+use std::alloc::{AllocError, Global};
 use value_ops::{Diagnostic, Name};
 
 /// The largest number.
@@ -68,21 +69,25 @@ fn folded(spelled: &[u8]) -> Name
 
 /// A name, a word or the beginning of a comment.
 #[tactic(auto, unfolding(crate::specs::Front::name_at))]
-fn name_front<'a>(line: &'a [u8], kind: &mut TokenKind) -> Lexeme<'a>
+fn name_front<'a>(
+    alloc: Global,
+    line: &'a [u8],
+    kind: &mut TokenKind,
+) -> Result<Lexeme<'a>, AllocError>
     requires { length line.now ≤ 80 }
-    ensures { seen kind.new result ≡ name_at line.now }
+    ensures { IfOk result (λ found. seen kind.new found ≡ name_at line.now) }
 {
     let (spelled, rest) = line.split_at(name_length(line));
     let name = folded(spelled);
     match word(name.as_slice()) {
         None => {
-            *kind = TokenKind::Named(name);
-            Lexeme::Token(rest)
+            *kind = TokenKind::Named(Spelling::new(alloc, name)?);
+            Ok(Lexeme::Token(rest))
         }
-        Some(Word::Comment) => Lexeme::Comment(rest),
+        Some(Word::Comment) => Ok(Lexeme::Comment(rest)),
         Some(word) => {
             *kind = TokenKind::Word(word);
-            Lexeme::Token(rest)
+            Ok(Lexeme::Token(rest))
         }
     }
 }
@@ -222,23 +227,27 @@ fn literal(line: &[u8]) -> Option<(Literal, &[u8])>
 
 /// A literal.
 #[tactic(auto, unfolding(crate::specs::Front::quoted_at))]
-fn quoted_front<'a>(line: &'a [u8], kind: &mut TokenKind) -> Lexeme<'a>
+fn quoted_front<'a>(
+    alloc: Global,
+    line: &'a [u8],
+    kind: &mut TokenKind,
+) -> Result<Lexeme<'a>, AllocError>
     requires { length line.now ≤ 80 }
-    ensures { seen kind.new result ≡ quoted_at line.now }
+    ensures { IfOk result (λ found. seen kind.new found ≡ quoted_at line.now) }
 {
     let [_, inner @ ..] = line else {
-        return Lexeme::Fault(Diagnostic::STRING_NOT_CLOSED);
+        return Ok(Lexeme::Fault(Diagnostic::STRING_NOT_CLOSED));
     };
     match literal(inner) {
-        None => Lexeme::Fault(Diagnostic::STRING_NOT_CLOSED),
+        None => Ok(Lexeme::Fault(Diagnostic::STRING_NOT_CLOSED)),
         Some((said, rest)) => match said.as_slice() {
             [] => match rest {
-                [b'"', ..] => Lexeme::Fault(Diagnostic::STRING_NOT_CLOSED),
-                _ => Lexeme::Fault(Diagnostic::STRING_EMPTY),
+                [b'"', ..] => Ok(Lexeme::Fault(Diagnostic::STRING_NOT_CLOSED)),
+                _ => Ok(Lexeme::Fault(Diagnostic::STRING_EMPTY)),
             },
             _ => {
-                *kind = TokenKind::Quoted(said);
-                Lexeme::Token(rest)
+                *kind = TokenKind::Quoted(Spelling::new(alloc, said)?);
+                Ok(Lexeme::Token(rest))
             }
         },
     }
@@ -305,24 +314,28 @@ fn bits_front<'a>(line: &'a [u8], kind: &mut TokenKind) -> Lexeme<'a>
 }
 
 /// What stands at the front of a line. Where it is a token, its kind is written down.
-pub fn front<'a>(line: &'a [u8], kind: &mut TokenKind) -> Lexeme<'a>
+pub fn front<'a>(
+    alloc: Global,
+    line: &'a [u8],
+    kind: &mut TokenKind,
+) -> Result<Lexeme<'a>, AllocError>
     requires { length line.now ≤ 80 }
-    ensures { seen kind.new result ≡ front line.now }
+    ensures { IfOk result (λ found. seen kind.new found ≡ front line.now) }
 {
     match line {
-        [] => Lexeme::Fault(Diagnostic::CHARACTER_NOT_USED),
-        [b' ', rest @ ..] => Lexeme::Blank(rest),
+        [] => Ok(Lexeme::Fault(Diagnostic::CHARACTER_NOT_USED)),
+        [b' ', rest @ ..] => Ok(Lexeme::Blank(rest)),
         [c, ..] => {
             if c.is_ascii_alphabetic() {
-                name_front(line, kind)
+                name_front(alloc, line, kind)
             } else if c.is_ascii_digit() {
-                number_front(line, kind)
+                Ok(number_front(line, kind))
             } else if *c == b'"' {
-                quoted_front(line, kind)
+                quoted_front(alloc, line, kind)
             } else if *c == b'#' {
-                bits_front(line, kind)
+                Ok(bits_front(line, kind))
             } else {
-                symbol_front(line, kind)
+                Ok(symbol_front(line, kind))
             }
         }
     }

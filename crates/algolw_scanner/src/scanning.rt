@@ -44,9 +44,10 @@ fn is_end(kind: &TokenKind) -> bool
 fn keep(tokens: &mut Vec<Token>, after_end: bool, token: Token) -> Result<(), AllocError>
     ensures { OnOk result (tokens.new.items ≡ tokens.old.items ++ kept_one after_end token) }
 {
-    if !(after_end && is_name(&token.kind)) {
-        tokens.push(token)?;
+    if after_end && is_name(&token.kind) {
+        return Ok(());
     }
+    tokens.push(token)?;
     Ok(())
 }
 
@@ -60,14 +61,16 @@ fn tokens_from(alloc: Global, start: Cursor) -> Result<Scanned, AllocError>
     let mut cursor = start;
     'pieces: loop {
         let mut kind = TokenKind::Finish;
-        match cursor.next_piece(&mut kind) {
+        let piece = cursor.next_piece(alloc, &mut kind)?;
+        match piece {
             Next::Token(next) => {
+                let ends = is_end(&kind);
                 let token = Token {
                     place: cursor.place,
                     kind,
                 };
                 keep(&mut tokens, after_end, token)?;
-                after_end = is_end(&kind);
+                after_end = ends;
                 cursor = next;
             }
             Next::Skipped(next) => cursor = next,

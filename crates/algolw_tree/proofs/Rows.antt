@@ -6,18 +6,19 @@ use Rattle.std.specs.declared.boxed.Box.{Box}
 use Rattle.algolw_tree.specs.declared.phrases.Phrase.{Phrase}
 use Rattle.algolw_tree.specs.declared.phrases.Link.{Link}
 use Rattle.algolw_tree.specs.declared.phrases.List as list
+use Rattle.algolw_tree.specs.declared.phrases.Part.{Part}
 use Rattle.algolw_tree.specs.declared.phrases.Item.{Item}
 use Rattle.algolw_tree.specs.declared.phrases.Actual.{Actual}
 use Rattle.algolw_tree.specs.declared.phrases.Bound.{Bound}
-use Rattle.algolw_tree.specs.declared.phrases.Actual.TheBlock.{hidden-the_row-Bound-0, hidden-the_row-List-1, hidden-the_row-Link-2, hidden-the_row-Phrase-3, hidden-the_row-Decl-4, hidden-the_row-Item-5, hidden-the_row-Actual-6, items_hidden-the_row-Bound-0, items_hidden-the_row-List-1, items_hidden-the_row-Link-2, items_hidden-the_row-Phrase-3, items_hidden-the_row-Decl-4, items_hidden-the_row-Item-5, items_hidden-the_row-Actual-6}
-use Rattle.algolw_tree.specs.declared.phrases.Kind.{Kind, Named, Chain, CaseValue, CaseDo, ForStep, ForList, Block, Row_of-Link, end_of-Link, more_of-Link, items-the_row-Link, Row_of-List, end_of-List, more_of-List, items-the_row-List, Row_of-Phrase, end_of-Phrase, more_of-Phrase, items-the_row-Phrase, Row_of-Item, end_of-Item, more_of-Item, items-the_row-Item, Row_of-Decl, end_of-Decl, more_of-Decl, items-the_row-Decl}
+use Rattle.algolw_tree.specs.declared.phrases.Actual.TheBlock.{hidden-the_row-Bound-0, hidden-the_row-List-1, hidden-the_row-Link-2, hidden-the_row-Phrase-3, hidden-the_row-Part-4, hidden-the_row-Decl-5, hidden-the_row-Item-6, hidden-the_row-Actual-7, items_hidden-the_row-Bound-0, items_hidden-the_row-List-1, items_hidden-the_row-Link-2, items_hidden-the_row-Phrase-3, items_hidden-the_row-Part-4, items_hidden-the_row-Decl-5, items_hidden-the_row-Item-6, items_hidden-the_row-Actual-7}
+use Rattle.algolw_tree.specs.declared.phrases.Kind.{Kind, Named, Chain, CaseValue, CaseDo, ForStep, ForList, Block, Row_of-Link, end_of-Link, more_of-Link, items-the_row-Link, Row_of-List, end_of-List, more_of-List, items-the_row-List, Row_of-Phrase, end_of-Phrase, more_of-Phrase, items-the_row-Phrase, Row_of-Part, end_of-Part, more_of-Part, items-the_row-Part, Row_of-Item, end_of-Item, more_of-Item, items-the_row-Item, Row_of-Decl, end_of-Decl, more_of-Decl, items-the_row-Decl}
 use Rattle.algolw_tree.specs.declared.phrases.ListKind.{ListKind, Actuals, Row_of-Actual, end_of-Actual, more_of-Actual, items-the_row-Actual}
 use Rattle.algolw_tree.specs.declared.phrases.Decl.{Decl, Array, Row_of-Bound, end_of-Bound, more_of-Bound, items-the_row-Bound}
 use Rattle.algolw_tree.specs.Tree as Tree
 use Rattle.value_ops.specs.declared.places.Place.{Place}
 use Rattle.algolw_tree.specs.declared.phrases.TypeSpec.{TypeSpec}
 use Rattle.algolw_tree.specs.Grammar.{phrases_of, links_of, lists_of, actuals_of, items_of, decls_of, bounds_of}
-use Rattle.algolw_tree.specs.View.{tree, kind_tree, spec_tree, phrases_tree, links_tree, lists_tree, listing_tree, actuals_tree, items_tree, decls_tree, bounds_tree, link_tree, list_tree, actual_tree, item_tree, decl_tree, bound_tree, optional_tree}
+use Rattle.algolw_tree.specs.View.{tree, kind_tree, spec_tree, phrases_tree, links_tree, lists_tree, listing_tree, actuals_tree, parts_tree, items_tree, decls_tree, bounds_tree, link_tree, list_tree, actual_tree, part_tree, item_tree, decl_tree, bound_tree, optional_tree}
 
 pub phrases_row : (n : _) (r : Row_of-Phrase n) → phrases_tree r ≡ phrases_of (map tree (items-the_row-Phrase n r))
 phrases_row n end_of-Phrase = refl
@@ -37,7 +38,11 @@ actuals_row n (more_of-Actual actual r) = ap (Tree.actual_and (actual_tree actua
 
 pub items_row : (n : _) (r : Row_of-Item n) → items_tree r ≡ items_of (map item_tree (items-the_row-Item n r))
 items_row n end_of-Item = refl
-items_row n (more_of-Item labels place first kind r) = ap (Tree.item_and (Tree.Labelled labels.items (Tree.At place first (kind_tree kind)))) (items_row _ r)
+items_row n (more_of-Item item r) = ap (Tree.item_and (item_tree item)) (items_row _ r)
+
+pub parts_row : (n : _) (r : Row_of-Part n) → parts_tree r ≡ phrases_of (map part_tree (items-the_row-Part n r))
+parts_row n end_of-Part = refl
+parts_row n (more_of-Part part r) = ap (Tree.phrase_and (part_tree part)) (parts_row _ r)
 
 pub decls_row : (n : _) (r : Row_of-Decl n) → decls_tree r ≡ decls_of (map decl_tree (items-the_row-Decl n r))
 decls_row n end_of-Decl = refl
@@ -57,14 +62,17 @@ vec_links v = links_row _ (hidden-the_row-Link-2 v) ∙ ap (λ xs. links_of (map
 pub vec_lists : (v : Vec list.List Global) → lists_tree (hidden-the_row-List-1 v) ≡ lists_of (map list_tree v.items)
 vec_lists v = lists_row _ (hidden-the_row-List-1 v) ∙ ap (λ xs. lists_of (map list_tree xs)) (items_hidden-the_row-List-1 v)
 
-pub vec_actuals : (v : Vec Actual Global) → actuals_tree (hidden-the_row-Actual-6 v) ≡ actuals_of (map actual_tree v.items)
-vec_actuals v = actuals_row _ (hidden-the_row-Actual-6 v) ∙ ap (λ xs. actuals_of (map actual_tree xs)) (items_hidden-the_row-Actual-6 v)
+pub vec_actuals : (v : Vec Actual Global) → actuals_tree (hidden-the_row-Actual-7 v) ≡ actuals_of (map actual_tree v.items)
+vec_actuals v = actuals_row _ (hidden-the_row-Actual-7 v) ∙ ap (λ xs. actuals_of (map actual_tree xs)) (items_hidden-the_row-Actual-7 v)
 
-pub vec_items : (v : Vec Item Global) → items_tree (hidden-the_row-Item-5 v) ≡ items_of (map item_tree v.items)
-vec_items v = items_row _ (hidden-the_row-Item-5 v) ∙ ap (λ xs. items_of (map item_tree xs)) (items_hidden-the_row-Item-5 v)
+pub vec_items : (v : Vec Item Global) → items_tree (hidden-the_row-Item-6 v) ≡ items_of (map item_tree v.items)
+vec_items v = items_row _ (hidden-the_row-Item-6 v) ∙ ap (λ xs. items_of (map item_tree xs)) (items_hidden-the_row-Item-6 v)
 
-pub vec_decls : (v : Vec Decl Global) → decls_tree (hidden-the_row-Decl-4 v) ≡ decls_of (map decl_tree v.items)
-vec_decls v = decls_row _ (hidden-the_row-Decl-4 v) ∙ ap (λ xs. decls_of (map decl_tree xs)) (items_hidden-the_row-Decl-4 v)
+pub vec_parts : (v : Vec Part Global) → parts_tree (hidden-the_row-Part-4 v) ≡ phrases_of (map part_tree v.items)
+vec_parts v = parts_row _ (hidden-the_row-Part-4 v) ∙ ap (λ xs. phrases_of (map part_tree xs)) (items_hidden-the_row-Part-4 v)
+
+pub vec_decls : (v : Vec Decl Global) → decls_tree (hidden-the_row-Decl-5 v) ≡ decls_of (map decl_tree v.items)
+vec_decls v = decls_row _ (hidden-the_row-Decl-5 v) ∙ ap (λ xs. decls_of (map decl_tree xs)) (items_hidden-the_row-Decl-5 v)
 
 pub vec_bounds : (v : Vec Bound Global) → bounds_tree (hidden-the_row-Bound-0 v) ≡ bounds_of (map bound_tree v.items)
 vec_bounds v = bounds_row _ (hidden-the_row-Bound-0 v) ∙ ap (λ xs. bounds_of (map bound_tree xs)) (items_hidden-the_row-Bound-0 v)
@@ -78,8 +86,8 @@ chain_at k b v x xs e e1 e2 = ap kind_tree e ∙ ap (Tree.Chain (tree b.value)) 
 pub case_value_at : (k : Kind) (b : Box Phrase Global) (v : Vec Phrase Global) (x : Phrase) (xs : List Phrase) → k ≡ CaseValue b v → x ≡ b.value → xs ≡ v.items → kind_tree k ≡ Tree.CaseValue (tree x) (phrases_of (map tree xs))
 case_value_at k b v x xs e e1 e2 = ap kind_tree e ∙ ap (Tree.CaseValue (tree b.value)) (vec_phrases v ∙ ap (λ ys. phrases_of (map tree ys)) (sym e2)) ∙ ap (λ y. Tree.CaseValue (tree y) (phrases_of (map tree xs))) (sym e1)
 
-pub case_do_at : (k : Kind) (b : Box Phrase Global) (v : Vec Phrase Global) (x : Phrase) (xs : List Phrase) → k ≡ CaseDo b v → x ≡ b.value → xs ≡ v.items → kind_tree k ≡ Tree.CaseDo (tree x) (phrases_of (map tree xs))
-case_do_at k b v x xs e e1 e2 = ap kind_tree e ∙ ap (Tree.CaseDo (tree b.value)) (vec_phrases v ∙ ap (λ ys. phrases_of (map tree ys)) (sym e2)) ∙ ap (λ y. Tree.CaseDo (tree y) (phrases_of (map tree xs))) (sym e1)
+pub case_do_at : (k : Kind) (b : Box Phrase Global) (v : Vec Part Global) (x : Phrase) (xs : List Part) → k ≡ CaseDo b v → x ≡ b.value → xs ≡ v.items → kind_tree k ≡ Tree.CaseDo (tree x) (phrases_of (map part_tree xs))
+case_do_at k b v x xs e e1 e2 = ap kind_tree e ∙ ap (Tree.CaseDo (tree b.value)) (vec_parts v ∙ ap (λ ys. phrases_of (map part_tree ys)) (sym e2)) ∙ ap (λ y. Tree.CaseDo (tree y) (phrases_of (map part_tree xs))) (sym e1)
 
 for_option : (n : List ℕ) (a : Box Phrase Global) (o : Option (Box Phrase Global)) (b c : Box Phrase Global) → kind_tree (ForStep n a o b c) ≡ Tree.ForStep n (tree a.value) (optional_tree o) (tree b.value) (tree c.value)
 for_option n a None b c = refl
@@ -97,7 +105,7 @@ for_list_at k n v b xs x e e1 e2 =
 
 pub block_at : (k : Kind) (ds : Vec Decl Global) (is : Vec Item Global) (xs : List Decl) (ys : List Item) → k ≡ Block ds is → xs ≡ ds.items → ys ≡ is.items → kind_tree k ≡ Tree.Block (decls_of (map decl_tree xs)) (items_of (map item_tree ys))
 block_at k ds is xs ys e e1 e2 =
-    ap kind_tree e ∙ ap (λ zs. Tree.Block zs (items_tree (hidden-the_row-Item-5 is))) (vec_decls ds ∙ ap (λ zs. decls_of (map decl_tree zs)) (sym e1))
+    ap kind_tree e ∙ ap (λ zs. Tree.Block zs (items_tree (hidden-the_row-Item-6 is))) (vec_decls ds ∙ ap (λ zs. decls_of (map decl_tree zs)) (sym e1))
     ∙ ap (Tree.Block (decls_of (map decl_tree xs))) (vec_items is ∙ ap (λ zs. items_of (map item_tree zs)) (sym e2))
 
 pub actuals_at : (p : Place) (k : ListKind) (v : Vec Actual Global) (xs : List Actual) → k ≡ Actuals v → xs ≡ v.items → listing_tree p k ≡ Tree.OfActuals p (actuals_of (map actual_tree xs))

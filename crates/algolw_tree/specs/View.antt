@@ -1,17 +1,19 @@
 -- The tree that a phrase in memory is.
-use Rattle.std.specs.Prelude.{Option, Some, None, map}
+use Rattle.std.specs.Prelude.{[], Option, Some, None, map}
 use Rattle.std.specs.Option.{option_map}
 use Rattle.std.specs.declared.boxed.Box.{Box}
 use Rattle.std.specs.declared.alloc.Global.{Global}
 use Rattle.algolw_tree.specs.declared.phrases.Phrase.{Phrase}
-use Rattle.algolw_tree.specs.declared.phrases.Kind.{Kind, Empty, Null, Number, Truth, BitsLit, Quoted, Goto, Named', Negated', Abs', Signed', Chain', Relation', IsClass', Assign', IfThen', CaseValue', CaseDo', ForStep', ForList', WhileDo', Assert', Block', Row_of-Link, end_of-Link, more_of-Link, Row_of-List, end_of-List, more_of-List, Row_of-Phrase, end_of-Phrase, more_of-Phrase, Held-Kind-IfThen-2, Some', None', Row_of-Item, end_of-Item, more_of-Item, Row_of-Decl, end_of-Decl, more_of-Decl}
+use Rattle.algolw_tree.specs.declared.phrases.Kind.{Kind, Empty, Null, Number, Truth, BitsLit, Quoted, Goto, Named', Negated', Abs', Signed', Chain', Relation', IsClass', Assign', IfThen', CaseValue', CaseDo', ForStep', ForList', WhileDo', Assert', Block', Row_of-Link, end_of-Link, more_of-Link, Row_of-List, end_of-List, more_of-List, Row_of-Phrase, end_of-Phrase, more_of-Phrase, Held-Kind-IfThen-2, Some', None', Row_of-Part, end_of-Part, more_of-Part, Row_of-Item, end_of-Item, more_of-Item, Row_of-Decl, end_of-Decl, more_of-Decl}
 use Rattle.algolw_tree.specs.declared.phrases.Actual.{Actual, Star, Phrase'}
 use Rattle.algolw_tree.specs.declared.phrases.ProcDecl.{ProcDecl, ProcDecl'}
 use Rattle.algolw_tree.specs.declared.phrases.Decl.{Decl, Simple, Array', Proc, Class, Row_of-Bound, end_of-Bound, more_of-Bound}
 use Rattle.algolw_tree.specs.declared.phrases.ListKind.{ListKind, Actuals', Part', Row_of-Actual, end_of-Actual, more_of-Actual}
 use Rattle.algolw_tree.specs.declared.phrases.Link.{Link}
 use Rattle.algolw_tree.specs.declared.phrases.List.{List}
-use Rattle.algolw_tree.specs.declared.phrases.Item.{Item}
+use Rattle.algolw_tree.specs.declared.phrases.Part.{Part, Empty as empty_part, Phrase' as phrase_part}
+use Rattle.algolw_tree.specs.declared.phrases.Item.{Item, Empty as empty_item, Plain', Labelled' as labelled_item}
+use Rattle.algolw_tree.specs.declared.phrases.Labelled.{Labelled, Labelled'}
 use Rattle.algolw_tree.specs.declared.phrases.Bound.{Bound}
 use Rattle.value_ops.specs.declared.places.Place.{Place}
 use Rattle.algolw_tree.specs.declared.phrases.TypeSpec.{TypeSpec}
@@ -33,6 +35,10 @@ formal_tree f = record { spec = option_map spec_tree f.spec; mode = f.mode; name
 abbrev pub class_tree : ClassDecl → Tree.ClassDecl
 class_tree c = record { name = c.name; groups = map (λ g. (spec_tree g.0, g.1.items)) c.groups.items }
 
+-- nothing, before the token at a place
+abbrev pub empty_tree : Place → Tree.Phrase
+empty_tree place = Tree.At place place Tree.Empty
+
 abbrev mutual
   pub kind_tree : Kind → Tree.Kind
   kind_tree Empty = Tree.Empty
@@ -52,7 +58,7 @@ abbrev mutual
   kind_tree (Assign' q place first kind q2 place2 first2 kind2) = Tree.Assign (Tree.At place first (kind_tree kind)) (Tree.At place2 first2 (kind_tree kind2))
   kind_tree (IfThen' q place first kind q2 place2 first2 kind2 otherwise) = Tree.IfThen (Tree.At place first (kind_tree kind)) (Tree.At place2 first2 (kind_tree kind2)) (perhaps_tree otherwise)
   kind_tree (CaseValue' q place first kind shape values) = Tree.CaseValue (Tree.At place first (kind_tree kind)) (phrases_tree values)
-  kind_tree (CaseDo' q place first kind shape parts) = Tree.CaseDo (Tree.At place first (kind_tree kind)) (phrases_tree parts)
+  kind_tree (CaseDo' q place first kind shape parts) = Tree.CaseDo (Tree.At place first (kind_tree kind)) (parts_tree parts)
   kind_tree (ForStep' n q place first kind step q2 place2 first2 kind2 q3 place3 first3 kind3) = Tree.ForStep n (Tree.At place first (kind_tree kind)) (perhaps_tree step) (Tree.At place2 first2 (kind_tree kind2)) (Tree.At place3 first3 (kind_tree kind3))
   kind_tree (ForList' n shape values q place first kind) = Tree.ForList n (phrases_tree values) (Tree.At place first (kind_tree kind))
   kind_tree (WhileDo' q place first kind q2 place2 first2 kind2) = Tree.WhileDo (Tree.At place first (kind_tree kind)) (Tree.At place2 first2 (kind_tree kind2))
@@ -81,15 +87,31 @@ abbrev mutual
 
   pub actual_tree : Actual → Tree.Actual
   actual_tree (Star place) = Tree.Star place
-  actual_tree (Phrase' place first kind) = Tree.Given (Tree.At place first (kind_tree kind))
+  actual_tree (Phrase' q place first kind) = Tree.Given (Tree.At place first (kind_tree kind))
 
   pub perhaps_tree : Held-Kind-IfThen-2 → Tree.Perhaps
   perhaps_tree None' = Tree.Missing
   perhaps_tree (Some' q place first kind) = Tree.There (Tree.At place first (kind_tree kind))
 
+  pub parts_tree : {m : _} → Row_of-Part m → Tree.Phrases
+  parts_tree end_of-Part = Tree.no_phrases
+  parts_tree (more_of-Part part rest) = Tree.phrase_and (part_tree part) (parts_tree rest)
+
+  pub part_tree : Part → Tree.Phrase
+  part_tree (empty_part place) = empty_tree place
+  part_tree (phrase_part q place first kind) = Tree.At place first (kind_tree kind)
+
   pub items_tree : {m : _} → Row_of-Item m → Tree.Items
   items_tree end_of-Item = Tree.no_items
-  items_tree (more_of-Item labels place first kind rest) = Tree.item_and (Tree.Labelled labels.items (Tree.At place first (kind_tree kind))) (items_tree rest)
+  items_tree (more_of-Item item rest) = Tree.item_and (item_tree item) (items_tree rest)
+
+  pub item_tree : Item → Tree.Item
+  item_tree (empty_item place) = Tree.Labelled [] (empty_tree place)
+  item_tree (Plain' q place first kind) = Tree.Labelled [] (Tree.At place first (kind_tree kind))
+  item_tree (labelled_item q l) = labelled_tree l
+
+  pub labelled_tree : Labelled → Tree.Item
+  labelled_tree (Labelled' labels q place first kind) = Tree.Labelled labels.items (Tree.At place first (kind_tree kind))
 
   pub decls_tree : {m : _} → Row_of-Decl m → Tree.Decls
   decls_tree end_of-Decl = Tree.no_decls
@@ -117,9 +139,6 @@ link_tree l = Tree.Linked l.op l.place (tree l.right)
 
 abbrev pub list_tree : List → Tree.Listing
 list_tree l = listing_tree l.place l.kind
-
-abbrev pub item_tree : Item → Tree.Item
-item_tree i = Tree.Labelled i.labels.items (tree i.phrase)
 
 abbrev pub bound_tree : Bound → Tree.Bound
 bound_tree b = Tree.Between b.place (tree b.lower) (tree b.upper)

@@ -3,16 +3,19 @@
 
 mod phrases;
 mod programs;
+mod spelling;
 mod tokens;
 mod words;
 
 pub use phrases::{
-    Actual, Bound, ClassDecl, Decl, Formal, Item, Kind, Link, List, ListKind, Mode, Names, Op,
-    Phrase, ProcDecl, RelOp, TypeSpec,
+    Actual, Bound, ClassDecl, Decl, Formal, Item, Kind, Labelled, Link, List, ListKind, Mode,
+    Names, Op, Part, Phrase, ProcDecl, RelOp, TypeSpec,
 };
 pub use programs::{
     Gives, NameInfo, Node, NodeKind, Program, Targets, TypedActual, TypedBound, TypedClass,
-    TypedDecl, TypedFormal, TypedItem, TypedLink, TypedList, TypedListKind, TypedProc, Use,
+    TypedDecl, TypedFormal, TypedItem, TypedLabelled, TypedLink, TypedList, TypedListKind,
+    TypedPart, TypedProc, Use,
 };
+pub use spelling::Spelling;
 pub use tokens::{Literal, Symbol, Token, TokenKind, Word};
 pub use words::WORDS;

@@ -1,4 +1,4 @@
-use crate::tokens::Literal;
+use crate::spelling::Spelling;
 use value_ops::{Name, Place};
 
 /// Names, each with its place.
@@ -31,9 +31,9 @@ pub enum Kind {
     /// Bits that are written out.
     BitsLit(u32),
     /// A string that is written out.
-    Quoted(Literal),
+    Quoted(Spelling),
     /// A name, and the lists in parentheses behind it.
-    Named(Name, Vec<List>),
+    Named(Spelling, Vec<List>),
     /// `~` and its operand.
     Negated(Box<Phrase>),
     /// `ABS` and its operand.
@@ -45,7 +45,7 @@ pub enum Kind {
     /// A comparison.
     Relation(RelOp, Box<Phrase>, Box<Phrase>),
     /// Whether a reference is to a record of the class that is named at a place.
-    IsClass(Box<Phrase>, Name, Place),
+    IsClass(Box<Phrase>, Spelling, Place),
     /// An assignment of the second to the first.
     Assign(Box<Phrase>, Box<Phrase>),
     /// `IF`, its condition, what is done where it holds, and otherwise.
@@ -53,15 +53,15 @@ pub enum Kind {
     /// `CASE` with the values to choose from.
     CaseValue(Box<Phrase>, Vec<Phrase>),
     /// `CASE` with the statements to choose from.
-    CaseDo(Box<Phrase>, Vec<Phrase>),
+    CaseDo(Box<Phrase>, Vec<Part>),
     /// `FOR` a control name: the start, the step, the limit, and what is done.
-    ForStep(Name, Box<Phrase>, Option<Box<Phrase>>, Box<Phrase>, Box<Phrase>),
+    ForStep(Spelling, Box<Phrase>, Option<Box<Phrase>>, Box<Phrase>, Box<Phrase>),
     /// `FOR` a control name: the values, and what is done.
-    ForList(Name, Vec<Phrase>, Box<Phrase>),
+    ForList(Spelling, Vec<Phrase>, Box<Phrase>),
     /// `WHILE`, its condition, and what is done.
     WhileDo(Box<Phrase>, Box<Phrase>),
     /// `GOTO` a label.
-    Goto(Name),
+    Goto(Spelling),
     /// `ASSERT` a condition.
     Assert(Box<Phrase>),
     /// A block: its declarations and its items.
@@ -107,17 +107,39 @@ pub enum Actual {
     /// `*`, which stands for a whole dimension, at a place.
     Star(Place),
     /// A phrase.
-    Phrase(Phrase),
+    Phrase(Box<Phrase>),
+}
+
+/// A phrase that may be missing, as it stands in a row.
+#[cycle(phrases)]
+#[derive(Drop)]
+pub enum Part {
+    /// Nothing, before the token at a place, as between two semicolons.
+    Empty(Place),
+    /// A phrase.
+    Phrase(Box<Phrase>),
 }
 
 /// A phrase of a block, behind its labels.
 #[cycle(phrases)]
 #[derive(Drop)]
-pub struct Item {
+pub enum Item {
+    /// Nothing, without labels, before the token at a place.
+    Empty(Place),
+    /// A phrase without labels.
+    Plain(Box<Phrase>),
+    /// A phrase behind its labels.
+    Labelled(Box<Labelled>),
+}
+
+/// A phrase, and the labels before it.
+#[cycle(phrases)]
+#[derive(Drop)]
+pub struct Labelled {
     /// Its labels.
     pub labels: Names,
     /// The phrase.
-    pub phrase: Phrase,
+    pub phrase: Box<Phrase>,
 }
 
 /// A declaration.

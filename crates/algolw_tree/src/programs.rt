@@ -106,7 +106,7 @@ pub enum NodeKind {
     /// `CASE` with the values to choose from.
     CaseValue(Box<Node>, Vec<Node>),
     /// `CASE` with the statements to choose from.
-    CaseDo(Box<Node>, Vec<Node>),
+    CaseDo(Box<Node>, Vec<TypedPart>),
     /// `FOR` a control name: the start, the step, the limit, and what is done.
     ForStep(u32, Box<Node>, Option<Box<Node>>, Box<Node>, Box<Node>),
     /// `FOR` a control name: the values, and what is done.
@@ -163,14 +163,36 @@ pub enum TypedActual {
     Phrase(Node),
 }
 
+/// A statement that may be missing, as it stands in a row.
+#[cycle(nodes)]
+#[derive(Drop)]
+pub enum TypedPart {
+    /// Nothing, before the token at a place, as between two semicolons.
+    Empty(Place),
+    /// A phrase.
+    Phrase(Box<Node>),
+}
+
 /// A phrase of a block, behind its labels.
 #[cycle(nodes)]
 #[derive(Drop)]
-pub struct TypedItem {
+pub enum TypedItem {
+    /// Nothing, without labels, before the token at a place.
+    Empty(Place),
+    /// A phrase without labels.
+    Plain(Box<Node>),
+    /// A phrase behind its labels.
+    Labelled(Box<TypedLabelled>),
+}
+
+/// A phrase, and the labels before it.
+#[cycle(nodes)]
+#[derive(Drop)]
+pub struct TypedLabelled {
     /// Its labels.
     pub labels: Targets,
     /// The phrase.
-    pub phrase: Node,
+    pub phrase: Box<Node>,
 }
 
 /// A declaration.

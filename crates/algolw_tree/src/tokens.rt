@@ -1,5 +1,6 @@
+use crate::spelling::Spelling;
 use short_text::Short;
-use value_ops::{Name, Place};
+use value_ops::Place;
 
 /// A string that is written out, without its quotes. It stands on one card, so it has at most 80 characters.
 pub type Literal = Short<80>;
@@ -101,18 +102,18 @@ pub enum Symbol {
 }
 
 /// What a token is.
-#[derive(Clone, Copy, PartialEq, Eq)]
+#[derive(Drop)]
 pub enum TokenKind {
     /// A word that is no name.
     Word(Word),
     /// A name, in capitals.
-    Named(Name),
+    Named(Spelling),
     /// A number, at most 2147483647.
     Number(i32),
     /// Bits that are written out.
     BitsLit(u32),
     /// A string that is written out, without its quotes.
-    Quoted(Literal),
+    Quoted(Spelling),
     /// A symbol.
     Symbol(Symbol),
     /// The end of the deck.
@@ -120,7 +121,7 @@ pub enum TokenKind {
 }
 
 /// A token, and where it begins.
-#[derive(Clone, Copy, PartialEq, Eq)]
+#[derive(Drop)]
 pub struct Token {
     /// Where it begins.
     pub place: Place,

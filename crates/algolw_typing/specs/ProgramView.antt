@@ -1,5 +1,5 @@
 -- The typed tree, the names, the record classes and the statements that a program in memory is.
-use Rattle.std.specs.Prelude.{◌≡◌, ◌<◌, ℕ, [], ◌∷◌, map, Option, slice_index_or}
+use Rattle.std.specs.Prelude.{◌≡◌, ◌<◌, ℕ, [], ◌∷◌, map, Option, Some, None, slice_index_or}
 use Rattle.std.specs.List.{All}
 use Rattle.std.specs.Prelude as std
 use Rattle.std.specs.Option.{option_map}
@@ -11,8 +11,11 @@ use Rattle.record_classes.specs.Classes as classes
 use Rattle.algolw_tree.specs.declared.programs.Gives.{Gives}
 use Rattle.algolw_tree.specs.declared.programs.Gives.TheVariants as gives
 use Rattle.algolw_tree.specs.declared.programs.Node.{Node}
-use Rattle.algolw_tree.specs.declared.programs.NodeKind.{NodeKind, Empty, Null, Number, Truth, BitsLit, Quoted, Goto, Named', Negated', Abs', Signed', Chain', Relation', IsClass', Assign', IfThen', CaseValue', CaseDo', ForStep', ForList', WhileDo', Assert', Block', Row_of-TypedLink, end_of-TypedLink, more_of-TypedLink, Row_of-TypedList, end_of-TypedList, more_of-TypedList, Row_of-Node, end_of-Node, more_of-Node, Held-NodeKind-IfThen-2, Some', None', Row_of-TypedItem, end_of-TypedItem, more_of-TypedItem, Row_of-TypedDecl, end_of-TypedDecl, more_of-TypedDecl}
+use Rattle.algolw_tree.specs.declared.programs.NodeKind.{NodeKind, Empty, Null, Number, Truth, BitsLit, Quoted, Goto, Named', Negated', Abs', Signed', Chain', Relation', IsClass', Assign', IfThen', CaseValue', CaseDo', ForStep', ForList', WhileDo', Assert', Block', Row_of-TypedLink, end_of-TypedLink, more_of-TypedLink, Row_of-TypedList, end_of-TypedList, more_of-TypedList, Row_of-Node, end_of-Node, more_of-Node, Held-NodeKind-IfThen-2, Some', None', Row_of-TypedPart, end_of-TypedPart, more_of-TypedPart, Row_of-TypedItem, end_of-TypedItem, more_of-TypedItem, Row_of-TypedDecl, end_of-TypedDecl, more_of-TypedDecl}
 use Rattle.algolw_tree.specs.declared.programs.TypedActual.{TypedActual, Star, Phrase'}
+use Rattle.algolw_tree.specs.declared.programs.TypedPart.{TypedPart, Empty as empty_part, Phrase' as phrase_part}
+use Rattle.algolw_tree.specs.declared.programs.TypedItem.{TypedItem, Empty as empty_item, Plain', Labelled' as labelled_item}
+use Rattle.algolw_tree.specs.declared.programs.TypedLabelled.{TypedLabelled, TypedLabelled'}
 use Rattle.algolw_tree.specs.declared.programs.TypedProc.{TypedProc, TypedProc'}
 use Rattle.algolw_tree.specs.declared.programs.TypedDecl.{TypedDecl, Simple, Array', Proc, Class, Row_of-TypedBound, end_of-TypedBound, more_of-TypedBound}
 use Rattle.algolw_tree.specs.declared.programs.TypedListKind.{TypedListKind, Actuals', Part', Row_of-TypedActual, end_of-TypedActual, more_of-TypedActual}
@@ -72,6 +75,10 @@ class_view ns c = typed.Class (target_view ns c.name) (map (λ g. record { type 
 abbrev pub at_view : Numbers → Place → Place → Option Gives → Option ℕ → typed.Kind → typed.Node
 at_view ns place first g s k = typed.At place first (option_map (gives_view ns) g) (option_map (numbered ns.statements) s) k
 
+-- nothing, before the token at a place: a statement, but none that is counted
+abbrev pub empty_view : Place → typed.Node
+empty_view at = typed.At at at (Some types.Statement) None typed.Empty
+
 abbrev mutual
   pub kind_view : Numbers → NodeKind → typed.Kind
   kind_view ns Empty = typed.Empty
@@ -91,7 +98,7 @@ abbrev mutual
   kind_view ns (Assign' q p f k g s q2 p2 f2 k2 g2 s2) = typed.Assign (at_view ns p f g s (kind_view ns k)) (at_view ns p2 f2 g2 s2 (kind_view ns k2))
   kind_view ns (IfThen' q p f k g s q2 p2 f2 k2 g2 s2 otherwise) = typed.IfThen (at_view ns p f g s (kind_view ns k)) (at_view ns p2 f2 g2 s2 (kind_view ns k2)) (perhaps_view ns otherwise)
   kind_view ns (CaseValue' q p f k g s shape values) = typed.CaseValue (at_view ns p f g s (kind_view ns k)) (nodes_view ns values)
-  kind_view ns (CaseDo' q p f k g s shape parts) = typed.CaseDo (at_view ns p f g s (kind_view ns k)) (nodes_view ns parts)
+  kind_view ns (CaseDo' q p f k g s shape parts) = typed.CaseDo (at_view ns p f g s (kind_view ns k)) (parts_view ns parts)
   kind_view ns (ForStep' n q p f k g s step q2 p2 f2 k2 g2 s2 q3 p3 f3 k3 g3 s3) = typed.ForStep (numbered ns.names n) (at_view ns p f g s (kind_view ns k)) (perhaps_view ns step) (at_view ns p2 f2 g2 s2 (kind_view ns k2)) (at_view ns p3 f3 g3 s3 (kind_view ns k3))
   kind_view ns (ForList' n shape values q p f k g s) = typed.ForList (numbered ns.names n) (nodes_view ns values) (at_view ns p f g s (kind_view ns k))
   kind_view ns (WhileDo' q p f k g s q2 p2 f2 k2 g2 s2) = typed.WhileDo (at_view ns p f g s (kind_view ns k)) (at_view ns p2 f2 g2 s2 (kind_view ns k2))
@@ -126,9 +133,25 @@ abbrev mutual
   perhaps_view ns None' = typed.Missing
   perhaps_view ns (Some' q p f k g s) = typed.There (at_view ns p f g s (kind_view ns k))
 
+  pub parts_view : Numbers → {m : _} → Row_of-TypedPart m → typed.Nodes
+  parts_view ns end_of-TypedPart = typed.no_nodes
+  parts_view ns (more_of-TypedPart part rest) = typed.node_and (part_view ns part) (parts_view ns rest)
+
+  pub part_view : Numbers → TypedPart → typed.Node
+  part_view ns (empty_part at) = empty_view at
+  part_view ns (phrase_part q p f k g s) = at_view ns p f g s (kind_view ns k)
+
   pub items_view : Numbers → {m : _} → Row_of-TypedItem m → typed.Items
   items_view ns end_of-TypedItem = typed.no_items
-  items_view ns (more_of-TypedItem labels p f k g s rest) = typed.item_and (typed.Labelled (targets_view ns labels.items) (at_view ns p f g s (kind_view ns k))) (items_view ns rest)
+  items_view ns (more_of-TypedItem item rest) = typed.item_and (item_view ns item) (items_view ns rest)
+
+  pub item_view : Numbers → TypedItem → typed.Item
+  item_view ns (empty_item at) = typed.Labelled [] (empty_view at)
+  item_view ns (Plain' q p f k g s) = typed.Labelled [] (at_view ns p f g s (kind_view ns k))
+  item_view ns (labelled_item q l) = labelled_view ns l
+
+  pub labelled_view : Numbers → TypedLabelled → typed.Item
+  labelled_view ns (TypedLabelled' labels q p f k g s) = typed.Labelled (targets_view ns labels.items) (at_view ns p f g s (kind_view ns k))
 
   pub decls_view : Numbers → {m : _} → Row_of-TypedDecl m → typed.Decls
   decls_view ns end_of-TypedDecl = typed.no_decls

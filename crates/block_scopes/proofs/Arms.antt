@@ -1,18 +1,20 @@
 -- What a kind of phrase adds, by the tree that it is.
-use Rattle.std.proofs.Common.{◌≡◌, List, [], ◌∷◌, ℕ, Option, Result, map, refl, sym, ap, subst, ◌∙◌, append_assoc}
+use Rattle.std.proofs.Common.{◌≡◌, List, [], ◌∷◌, ◌++◌, ℕ, suc, ◌+◌, Option, Result, map, refl, sym, ap, subst, ◌∙◌, append_assoc}
 use Rattle.std.specs.Result.{OnOk}
 use Rattle.value_ops.specs.declared.places.Place.{Place}
 use Rattle.std.specs.Option.{option_map}
-use Rattle.algolw_tree.specs.View.{tree, spec_tree, formal_tree, procedure_tree}
+use Rattle.algolw_tree.specs.View.{tree, spec_tree, formal_tree, procedure_tree, labelled_tree}
 use Rattle.algolw_tree.specs.declared.phrases.ProcDecl.{ProcDecl, ProcDecl', out-ProcDecl}
+use Rattle.algolw_tree.specs.declared.phrases.Labelled.{Labelled, Labelled', out-Labelled}
 use Rattle.algolw_tree.specs.Tree as Tree
 use Rattle.algolw_tree.specs.Tree.{Placed}
-use Rattle.algolw_typing.specs.Naming.{Naming, Frame, NamePath, and, naming, kind_naming, perhaps_naming, phrases_naming, decl_naming, declares, inside, of_procedure, scope_of, formal_names, formal_uses, result_uses}
+use Rattle.algolw_tree.proofs.Sizes.{size, size_items}
+use Rattle.algolw_typing.specs.Naming.{Naming, Frame, NamePath, and, naming, kind_naming, perhaps_naming, phrases_naming, items_naming, decl_naming, label_names, declares, inside, of_procedure, scope_of, formal_names, formal_uses, result_uses}
 use Rattle.block_scopes.specs.declared.resolver.Resolver.{Resolver}
 use Rattle.std.proofs.lemmas.Result.{on_ok_weaker}
 use Rattle.block_scopes.specs.Adding.{Adds}
 use Rattle.block_scopes.proofs.Added.{adds_and}
-use Rattle.block_scopes.specs.Parts.{listing_naming, controlled_naming}
+use Rattle.block_scopes.specs.Parts.{listing_naming, item_naming, item_labels, controlled_naming}
 use Rattle.block_scopes.proofs.Unnamed.{behind, none_of_result, none_of_formals}
 
 pub and_assoc : (a b c : Naming) → and (and a b) c ≡ and a (and b c)
@@ -69,6 +71,24 @@ procedure_adds a b c f g inner path result formals xs body at names within scope
     let of_formals = subst (λ (zs : List Placed). Adds a c (and (declares g zs) (naming (inside g zs) (scope_of zs ∷ path) body))) names inside_it in
     let all = subst (λ (h : Frame). Adds a c (and (declares h ys) (naming (inside h ys) (scope_of ys ∷ path) body))) at of_formals in
     behind a c (result_uses path result) _ (none_of_result path result) (behind a c (formal_uses path formals) _ (none_of_formals path formals) all)
+
+-- a phrase of a block, before the others
+pub item_first : (f : Frame) (path : NamePath) (i : Tree.Item) (items : Tree.Items) → items_naming f path (Tree.item_and i items) ≡ and (item_naming f path i) (items_naming f path items)
+item_first f path (Tree.Labelled labels a) items = refl
+
+pub labels_first : (i : Tree.Item) (items : Tree.Items) → label_names (Tree.item_and i items) ≡ item_labels i ++ label_names items
+labels_first (Tree.Labelled labels a) items = refl
+
+abbrev pub size_item : Tree.Item → ℕ
+size_item (Tree.Labelled labels a) = size a
+
+pub size_first : (i : Tree.Item) (items : Tree.Items) → size_items (Tree.item_and i items) ≡ suc (size_item i + size_items items)
+size_first (Tree.Labelled labels a) items = refl
+
+-- a phrase behind labels as a tree
+pub labelled_is : (l : Labelled) → labelled_tree l ≡ Tree.Labelled (out-Labelled l).labels.items (tree (out-Labelled l).phrase.value)
+unfolding out-Labelled denote.Hole.Carrier.out
+labelled_is (Labelled' labels q place first kind) = refl
 
 -- a procedure as a tree
 pub procedure_is : (d : ProcDecl) → procedure_tree d ≡ Tree.Proc (out-ProcDecl d).place (option_map spec_tree (out-ProcDecl d).result) (out-ProcDecl d).name (map formal_tree (out-ProcDecl d).formals.items) (tree (out-ProcDecl d).body.value)

@@ -12,6 +12,12 @@ abbrev pub actual_naming : Frame → NamePath → Tree.Actual → Naming
 actual_naming frame path (Tree.Star p) = nothing
 actual_naming frame path (Tree.Given a) = naming frame path a
 
+abbrev pub item_naming : Frame → NamePath → Tree.Item → Naming
+item_naming frame path (Tree.Labelled labels a) = naming frame path a
+
+abbrev pub item_labels : Tree.Item → List Placed
+item_labels (Tree.Labelled labels a) = labels
+
 abbrev pub block_naming : Frame → NamePath → Tree.Decls → Tree.Items → Naming
 block_naming frame path decls items =
     let xs = block_names decls items in

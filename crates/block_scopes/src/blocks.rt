@@ -2,6 +2,7 @@ ghost use Rattle.std.specs.Prelude.{◌≡◌, ◌∷◌, [], ◌++◌, OnOk, If
 ghost use Rattle.algolw_tree.specs.Grammar.{decls_of, items_of};
 ghost use Rattle.algolw_tree.specs.View.{spec_tree, formal_tree, decl_tree, item_tree};
 ghost use Rattle.algolw_typing.specs.Scopes.{group_names};
+ghost use Rattle.block_scopes.specs.Parts.{item_labels};
 ghost use Rattle.algolw_typing.specs.Naming.{decl_names, decls_names, label_names, block_names, formal_names};
 
 use algolw_tree::{ClassDecl, Decl, Formal, Item, Names, TypeSpec};
@@ -64,12 +65,23 @@ fn add_decls(scope: &mut Scope, decls: &[Decl]) -> Result<(), AllocError>
     Ok(())
 }
 
+/// Declares the labels of an item.
+#[tactic(auto, using(crate::proofs::Arms::labelled_is))]
+fn add_label(scope: &mut Scope, item: &Item) -> Result<(), AllocError>
+    ensures { OnOk result (scope.new ≡ scope.old ++ item_labels (item_tree item.now)) }
+{
+    match item {
+        Item::Empty(_) | Item::Plain(_) => Ok(()),
+        Item::Labelled(labelled) => add_names(scope, &labelled.labels),
+    }
+}
+
 /// Declares the labels of items.
 fn add_labels(scope: &mut Scope, items: &[Item]) -> Result<(), AllocError>
     ensures { OnOk result (scope.new ≡ scope.old ++ label_names (items_of (map item_tree items.now))) }
 {
     for item in items {
-        add_names(scope, &item.labels)?;
+        add_label(scope, item)?;
     }
     Ok(())
 }

@@ -1,16 +1,16 @@
 ghost use Rattle.std.specs.Prelude.{◌≡◌, OnOk, map};
 ghost use Rattle.algolw_tree.specs.Tree as T;
 ghost use Rattle.algolw_tree.specs.Grammar.{phrases_of, links_of, lists_of, actuals_of, items_of, decls_of, bounds_of};
-ghost use Rattle.algolw_tree.specs.View.{tree, link_tree, list_tree, actual_tree, item_tree, decl_tree, bound_tree, optional_tree, procedure_tree};
+ghost use Rattle.algolw_tree.specs.View.{tree, link_tree, list_tree, actual_tree, part_tree, item_tree, decl_tree, bound_tree, optional_tree, procedure_tree};
 ghost use Rattle.algolw_typing.specs.Naming.{and, naming, phrases_naming, perhaps_naming, links_naming, lists_naming, actuals_naming, items_naming, bounds_naming, decls_naming, decl_naming, inside};
 ghost use Rattle.block_scopes.specs.Adding.{Adds, frame_view};
-ghost use Rattle.block_scopes.specs.Parts.{listing_naming, actual_naming, block_naming, controlled_naming};
+ghost use Rattle.block_scopes.specs.Parts.{listing_naming, actual_naming, item_naming, block_naming, controlled_naming};
 ghost use Rattle.name_scopes.specs.Paths.{path_view};
 
 use crate::blocks::{block_scope, control_scope, formal_scope};
 use crate::frame::Frame;
 use crate::resolver::Resolver;
-use algolw_tree::{Actual, Bound, Decl, Item, Kind, Link, List, ListKind, Phrase, ProcDecl};
+use algolw_tree::{Actual, Bound, Decl, Item, Kind, Link, List, ListKind, Part, Phrase, ProcDecl};
 use name_scopes::{Scope, ScopePath};
 use std::alloc::AllocError;
 
@@ -47,15 +47,15 @@ impl Resolver<'_> {
                 self.conditional(frame, path, condition, then, otherwise)
             }
             Kind::CaseValue(subject, values) => self.selection(frame, path, subject, values),
-            Kind::CaseDo(subject, parts) => self.selection(frame, path, subject, parts),
+            Kind::CaseDo(subject, parts) => self.choice(frame, path, subject, parts),
             Kind::ForStep(name, start, step, limit, body) => {
-                let scope = control_scope(self.alloc, *name, place)?;
+                let scope = control_scope(self.alloc, *name.get(), place)?;
                 let inner = self.declares(frame, &scope)?;
                 self.range(inner, path, start, step, limit)?;
                 self.phrase(inner, &ScopePath::Inner(&scope, &*path), body)
             }
             Kind::ForList(name, values, body) => {
-                let scope = control_scope(self.alloc, *name, place)?;
+                let scope = control_scope(self.alloc, *name.get(), place)?;
                 self.for_list(frame, path, &scope, values, body)
             }
             Kind::WhileDo(condition, body) => self.both(frame, path, condition, body),
@@ -121,21 +121,39 @@ impl Resolver<'_> {
         Ok(())
     }
 
-    /// Resolves a CASE.
+    /// Resolves a CASE with values.
     #[cycle(phrases)]
     fn selection(
         &mut self,
         frame: Frame,
         path: &ScopePath,
         subject: &Phrase,
-        parts: &[Phrase],
+        values: &[Phrase],
     ) -> Result<(), AllocError>
         ensures { OnOk result (Adds self.old self.new
             (and (naming (frame_view frame) (path_view path.now) (tree subject.now))
-            (phrases_naming (frame_view frame) (path_view path.now) (phrases_of (map tree parts.now))))) }
+            (phrases_naming (frame_view frame) (path_view path.now) (phrases_of (map tree values.now))))) }
     {
         self.phrase(frame, path, subject)?;
-        self.phrases(frame, path, parts)?;
+        self.phrases(frame, path, values)?;
+        Ok(())
+    }
+
+    /// Resolves a CASE with statements.
+    #[cycle(phrases)]
+    fn choice(
+        &mut self,
+        frame: Frame,
+        path: &ScopePath,
+        subject: &Phrase,
+        parts: &[Part],
+    ) -> Result<(), AllocError>
+        ensures { OnOk result (Adds self.old self.new
+            (and (naming (frame_view frame) (path_view path.now) (tree subject.now))
+            (phrases_naming (frame_view frame) (path_view path.now) (phrases_of (map part_tree parts.now))))) }
+    {
+        self.phrase(frame, path, subject)?;
+        self.parts(frame, path, parts)?;
         Ok(())
     }
 
@@ -216,6 +234,30 @@ impl Resolver<'_> {
         Ok(())
     }
 
+    /// Resolves the statements of a CASE.
+    #[cycle(phrases)]
+    fn parts(&mut self, frame: Frame, path: &ScopePath, parts: &[Part]) -> Result<(), AllocError>
+        ensures { OnOk result (Adds self.old self.new
+            (phrases_naming (frame_view frame) (path_view path.now) (phrases_of (map part_tree parts.now)))) }
+    {
+        for part in parts {
+            self.part(frame, path, part)?;
+        }
+        Ok(())
+    }
+
+    /// Resolves a statement of a CASE.
+    #[cycle(phrases)]
+    fn part(&mut self, frame: Frame, path: &ScopePath, part: &Part) -> Result<(), AllocError>
+        ensures { OnOk result (Adds self.old self.new
+            (naming (frame_view frame) (path_view path.now) (part_tree part.now))) }
+    {
+        match part {
+            Part::Empty(_) => Ok(()),
+            Part::Phrase(phrase) => self.phrase(frame, path, phrase),
+        }
+    }
+
     /// Resolves the operands of a chain.
     #[cycle(phrases)]
     fn links(&mut self, frame: Frame, path: &ScopePath, links: &[Link]) -> Result<(), AllocError>
@@ -288,9 +330,23 @@ impl Resolver<'_> {
             (items_naming (frame_view frame) (path_view path.now) (items_of (map item_tree items.now)))) }
     {
         for item in items {
-            self.phrase(frame, path, &item.phrase)?;
+            self.item(frame, path, item)?;
         }
         Ok(())
+    }
+
+    /// Resolves a phrase of a block.
+    #[cycle(phrases)]
+    #[tactic(auto, using(crate::proofs::Arms::labelled_is))]
+    fn item(&mut self, frame: Frame, path: &ScopePath, item: &Item) -> Result<(), AllocError>
+        ensures { OnOk result (Adds self.old self.new
+            (item_naming (frame_view frame) (path_view path.now) (item_tree item.now))) }
+    {
+        match item {
+            Item::Empty(_) => Ok(()),
+            Item::Plain(phrase) => self.phrase(frame, path, phrase),
+            Item::Labelled(labelled) => self.phrase(frame, path, &labelled.phrase),
+        }
     }
 
     /// Resolves the bounds of arrays.

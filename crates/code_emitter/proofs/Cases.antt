@@ -11,7 +11,7 @@ use Rattle.phrase_code.specs.Coding.{◌▸◌, Context, begin_code, code_parts,
 use Rattle.phrase_code.specs.Marks.{marks, phrases_marks}
 use Rattle.phrase_code.specs.Sizes.{Known, begin_size, jumps_size, parts_size, size}
 use Rattle.phrase_code.proofs.Sizes.{code_sized, jumps_sized, parts_sized}
-use Rattle.program_meaning.specs.Phrases.{Phrase, Phrases, no_phrases, phrase_and, Case, Empty}
+use Rattle.program_meaning.specs.Phrases.{Phrase, Phrases, no_phrases, phrase_and, Case}
 use Rattle.stack_code.specs.Code as code
 use Rattle.stack_code.specs.CodeView.{CodeFits, Given, KindsFit, kinds_view, statement_view}
 use Rattle.stack_code.specs.Instr as instr
@@ -23,7 +23,7 @@ use Rattle.symbol_table.specs.Contexts.{Scene, coding_context}
 use Rattle.symbol_table.specs.declared.here.Here.{Here}
 use Rattle.symbol_table.specs.Heres.{in_statement}
 use Rattle.code_emitter.specs.Appending.{appended, begun, final_targets, made_into, replaced}
-use Rattle.code_emitter.specs.Forms.{Form, all_replaced, before, jumps_open, part_ends, parts_to, selection, sized}
+use Rattle.code_emitter.specs.Forms.{Form, all_replaced, before, jumps_open, part_at, part_ends, parts_to, selection, sized}
 use Rattle.code_emitter.specs.Parts.{Codes, CodesPhrase, Meets, Own, Stays, code_at, linked_code, next, none_own, place_in, scene}
 use Rattle.code_emitter.specs.declared.emitter.Emitter.{Emitter}
 use Rattle.code_emitter.proofs.Composing.{given_there, known_anywhere, length_code_at, meets_final, stays_both, stays_itself, stays_replaced, stays_then}
@@ -33,11 +33,6 @@ use Rattle.code_emitter.proofs.Lines.{begun_codes, behind_before}
 use Rattle.code_emitter.proofs.Remaining.{Remains, remains_as, remains_behind, remains_each, remains_none, remains_replaced}
 
 -- ---- phrases by their numbers
-
-abbrev pub part_at : ℕ → Phrases → Phrase
-part_at i no_phrases = Empty
-part_at zero (phrase_and a rest) = a
-part_at (suc i) (phrase_and a rest) = part_at i rest
 
 abbrev pub parts_from : ℕ → Phrases → Phrases
 parts_from i no_phrases = no_phrases

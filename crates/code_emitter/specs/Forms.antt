@@ -1,8 +1,8 @@
 -- The code of greater parts, told by what is known of names and by where it begins.
-use Rattle.std.specs.Prelude.{ℕ, ◌+◌, List, [], ◌∷◌, replicate, Option}
+use Rattle.std.specs.Prelude.{ℕ, zero, suc, ◌+◌, List, [], ◌∷◌, replicate, Option}
 use Rattle.value_ops.specs.declared.places.Place.{Place}
 use Rattle.value_ops.specs.declared.values.SimpleType.{SimpleType}
-use Rattle.program_meaning.specs.Phrases.{Name, Phrase, Phrases, no_phrases, phrase_and}
+use Rattle.program_meaning.specs.Phrases.{Empty, Name, Phrase, Phrases, no_phrases, phrase_and}
 use Rattle.phrase_code.specs.Coding as coding
 use Rattle.phrase_code.specs.Coding.{◌▸◌, code_parts, jumps_code, known, make_code, one, phrase_count, turn_context}
 use Rattle.phrase_code.specs.Sizes.{Known, jumps_size, parts_size, size}
@@ -50,6 +50,12 @@ abbrev pub turn_sized : Scene → Here → Name → Phrase → List ℕ → ℕ
 turn_sized s here x body ts = size (known (turn_context (coding_context s ts here) x)) body
 
 -- ---- the parts of a CASE
+
+-- a part by its number
+abbrev pub part_at : ℕ → Phrases → Phrase
+part_at i no_phrases = Empty
+part_at zero (phrase_and a rest) = a
+part_at (suc i) (phrase_and a rest) = part_at i rest
 
 -- jumps that go nowhere yet
 abbrev pub jumps_open : Place → ℕ → List code.Coded

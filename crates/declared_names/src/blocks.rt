@@ -92,7 +92,9 @@ pub fn declare_labels(items: &[Item], scope: &mut KnownScope) -> Result<(), Allo
     ensures { OnOk result (scope.new ≡ scope.old ++ scopes.label_entries (items_of (map item_tree items.now))) }
 {
     for item in items {
-        declare_names(&item.labels, Some(Meaning::Label), scope)?;
+        if let Item::Labelled(labelled) = item {
+            declare_names(&labelled.labels, Some(Meaning::Label), scope)?;
+        }
     }
     Ok(())
 }

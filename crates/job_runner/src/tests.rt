@@ -5,7 +5,7 @@ use crate::deck::{Compiled, compile_deck};
 use crate::text::push_number;
 use algolw_parser::{Parsed, parse};
 use algolw_scanner::{Scanned, scan};
-use algolw_tree::{Gives, Kind, NameInfo, Node, NodeKind, Phrase, Program, Token};
+use algolw_tree::{Gives, Item, Kind, NameInfo, Node, NodeKind, Phrase, Program, Token, TypedItem};
 use deck_reader::{Batch, Card, FeedError, Job, Reader};
 use record_classes::ClassTable;
 use std::alloc::{AllocError, Global};
@@ -218,7 +218,7 @@ fn shape(phrase: &Phrase) -> &'static str {
 fn shape_in_block(block: &Phrase) -> &'static str {
     match &block.kind {
         Kind::Block(_, items) => match items.as_slice() {
-            [item] => shape(&item.phrase),
+            [Item::Plain(phrase)] => shape(phrase),
             _ => "none",
         },
         _ => "no block",
@@ -522,7 +522,11 @@ fn push_statement(out: &mut Vec<u8>, classes: &ClassTable, node: &Node) -> Resul
 fn push_block(out: &mut Vec<u8>, classes: &ClassTable, block: &Node) -> Result<(), AllocError> {
     if let NodeKind::Block(_, items) = &block.kind {
         for item in items {
-            push_statement(out, classes, &item.phrase)?;
+            match item {
+                TypedItem::Empty(_) => {}
+                TypedItem::Plain(node) => push_statement(out, classes, node)?,
+                TypedItem::Labelled(labelled) => push_statement(out, classes, &labelled.phrase)?,
+            }
         }
     }
     Ok(())

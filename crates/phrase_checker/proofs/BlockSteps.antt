@@ -1,5 +1,6 @@
 -- The turns of the checker's loops over the bounds, the declarations and the items of a block.
-use Rattle.std.proofs.Common.{◌≡◌, ℕ, zero, suc, ◌+◌, ◌<◌, ◌≤◌, Bool, nat_eq, List, [], ◌∷◌, ◌++◌, length, get_or, drop, map, refl, sym, ap, ◌∙◌, append_assoc, append-nil, arith}
+use Rattle.std.proofs.Common.{◌≡◌, ℕ, zero, suc, ◌+◌, ◌<◌, ◌≤◌, Bool, true, false, nat_eq, List, [], ◌∷◌, ◌++◌, length, get_or, drop, map, refl, sym, ap, subst, ◌∙◌, append_assoc, append-nil, arith}
+use Rattle.std.specs.Prelude.{Result, Ok, Err, OnOk}
 use Rattle.std.proofs.lemmas.List.{drop_all, map-append}
 use Rattle.std.proofs.lemmas.Bool.{eq-eqb, ne_eqb}
 use Rattle.value_ops.specs.declared.places.Diagnostic.{Diagnostic}
@@ -7,23 +8,27 @@ use Rattle.value_ops.specs.declared.places.Place.{Place}
 use Rattle.algolw_tree.specs.declared.phrases.Bound.{Bound}
 use Rattle.algolw_tree.specs.declared.phrases.Decl.{Decl}
 use Rattle.algolw_tree.specs.declared.phrases.Item.{Item}
+use Rattle.algolw_tree.specs.declared.phrases.Labelled.{Labelled, Labelled', out-Labelled}
 use Rattle.algolw_tree.specs.Grammar.{bounds_of, decls_of, items_of}
-use Rattle.algolw_tree.specs.View.{tree as phrase_tree, bound_tree, decl_tree, item_tree}
+use Rattle.algolw_tree.specs.Tree.{Placed}
+use Rattle.algolw_tree.specs.Tree as tree
+use Rattle.algolw_tree.specs.View.{tree as phrase_tree, bound_tree, decl_tree, item_tree, labelled_tree}
+use Rattle.algolw_tree.proofs.Sizes.{size, size_items}
 use Rattle.algolw_typing.specs.Rows.{bound_row}
 use Rattle.algolw_typing.specs.Names.{Scope}
 use Rattle.algolw_typing.specs.Scopes.{Known, Scopes}
 use Rattle.algolw_typing.specs.Typed as typed
-use Rattle.algolw_typing.specs.Typing.{Out, faults, gives, bound_out, BoundsOut, decl_out, DeclOut, DeclsOut, no_more_decls, meanings, meanings_of, item_out, ItemsOut, declare_at, is_last, then_item, typed_phrase, typed_bounds, typed_decl, typed_decls, typed_items}
-use Rattle.algolw_typing.specs.Verdicts.{Verdict, fault_of, two_parts}
+use Rattle.algolw_typing.specs.Typing.{Out, faults, gives, bound_out, BoundsOut, decl_out, DeclOut, DeclsOut, empty_out, no_more_decls, meanings, meanings_of, item_out, ItemsOut, declare_at, first_token, has_labels, is_last, then_item, typed_phrase, typed_bounds, typed_decl, typed_decls, typed_items}
+use Rattle.algolw_typing.specs.Types.{Statement}
+use Rattle.algolw_typing.specs.Verdicts.{Verdict, Good, fault_of, two_parts}
 use Rattle.typing_rules.specs.View as view
 use Rattle.typed_drafts.specs.declared.drafts.DraftBound.{DraftBound}
 use Rattle.typed_drafts.specs.declared.drafts.DraftDecl.{DraftDecl}
-use Rattle.typed_drafts.specs.DraftView.{decl_view}
-use Rattle.typed_drafts.specs.DraftParts.{bound_view, item_view}
+use Rattle.typed_drafts.specs.DraftView.{decl_view, item_view}
+use Rattle.typed_drafts.specs.DraftParts.{bound_view}
 use Rattle.typed_drafts.specs.Onto.{bounds_onto, decls_onto, items_onto}
 use Rattle.declared_names.specs.Blocks.{DeclFound, bounds_view, decl_bounds, each_bounds}
-use Rattle.typed_phrases.specs.Items.{item_end}
-use Rattle.phrase_checker.specs.Checked.{BoundChecked, DeclsChecked, ItemChecked}
+use Rattle.phrase_checker.specs.Checked.{BoundChecked, DeclsChecked, ItemChecked, end_of}
 use Rattle.declared_names.specs.declared.blocks.Bounds.{Bounds}
 use Rattle.phrase_checker.specs.declared.checker.Checker.{Checker}
 use Rattle.typed_phrases.specs.declared.items.Items.{Items}
@@ -82,24 +87,62 @@ pub record ItemsSoFar (start now : List Diagnostic) (is : List typed.Item) (whol
   pub items : SoFar items_onto start now is whole.inside rest.inside whole.items rest.items
   pub verdict : whole.verdict ≡ rest.verdict
 
-pub items_step : (path : Scopes) (whole : ItemsOut) (start : List Diagnostic) (xs : List Item) (i : ℕ) (x : Item) (last : Bool) (a b : Checker) (old new : Items) → i < length xs → x ≡ get_or xs i x → last ≡ is_last (items_of (map item_tree (drop (i + 1) xs)))
-    → ItemChecked a b old new x.labels.items (typed_phrase path (phrase_tree x.phrase)) (item_end last x.labels.items (phrase_tree x.phrase) (typed_phrase path (phrase_tree x.phrase)))
-    → ItemsSoFar start a.faults.items (map item_view old.drafts.items) whole (typed_items path (view.verdict old.verdict) (items_of (map item_tree (drop i xs))))
-    → ItemsSoFar start b.faults.items (map item_view new.drafts.items) whole (typed_items path (view.verdict new.verdict) (items_of (map item_tree (drop (i + 1) xs))))
-items_step path whole start xs i x last a b old new within is at_end c h =
-    let o : Out = typed_phrase path (phrase_tree x.phrase) in
-    let v : Verdict = item_end last x.labels.items (phrase_tree x.phrase) o in
-    let more : ItemsOut = typed_items path (view.verdict new.verdict) (items_of (map item_tree (drop (i + 1) xs))) in
-    let before : ItemsOut = typed_items path (view.verdict old.verdict) (items_of (map item_tree (drop i xs))) in
-    let e : before ≡ item_out x.labels.items o v more =
-    ap (λ ys. typed_items path (view.verdict old.verdict) (items_of (map item_tree ys))) (next xs i x within is)
-    ∙ ap (λ (l : Bool). item_out x.labels.items o (item_end l x.labels.items (phrase_tree x.phrase) o) (typed_items path (then_item (view.verdict old.verdict) (item_end l x.labels.items (phrase_tree x.phrase) o)) (items_of (map item_tree (drop (i + 1) xs))))) (sym at_end)
-    ∙ ap (λ (u : Verdict). item_out x.labels.items o v (typed_items path u (items_of (map item_tree (drop (i + 1) xs))))) (sym c.verdict) in
+items_turn : (path : Scopes) (whole : ItemsOut) (start : List Diagnostic) (y : tree.Item) (rest : tree.Items) (last : Bool) (a b : Checker) (old new : Items) → last ≡ is_last rest → ItemChecked path last a b old new y
+    → ItemsSoFar start a.faults.items (map item_view old.drafts.items) whole (typed_items path (view.verdict old.verdict) (tree.item_and y rest))
+    → ItemsSoFar start b.faults.items (map item_view new.drafts.items) whole (typed_items path (view.verdict new.verdict) rest)
+items_turn path whole start (tree.Labelled labels p) rest last a b old new at_end c h =
+    let o : Out = typed_phrase path p in
+    let v : Verdict = end_of last (has_labels labels) (first_token p) o in
+    let more : ItemsOut = typed_items path (view.verdict new.verdict) rest in
+    let before : ItemsOut = typed_items path (view.verdict old.verdict) (tree.item_and (tree.Labelled labels p) rest) in
+    let e : before ≡ item_out labels o v more =
+    ap (λ (l : Bool). item_out labels o (end_of l (has_labels labels) (first_token p) o) (typed_items path (then_item (view.verdict old.verdict) (end_of l (has_labels labels) (first_token p) o)) rest)) (sym at_end)
+    ∙ ap (λ (u : Verdict). item_out labels o v (typed_items path u rest)) (sym c.verdict) in
     record {
-      items = turn items_onto typed.item_and items_put start a.faults.items b.faults.items (faults o ++ fault_of v) (map item_view old.drafts.items) (map item_view new.drafts.items) (typed.Labelled (declare_at x.labels.items) o.node) whole.inside before.inside more.inside whole.items before.items more.items h.items
+      items = turn items_onto typed.item_and items_put start a.faults.items b.faults.items (faults o ++ fault_of v) (map item_view old.drafts.items) (map item_view new.drafts.items) (typed.Labelled (declare_at labels) o.node) whole.inside before.inside more.inside whole.items before.items more.items h.items
           (ap (λ (q : ItemsOut). q.inside) e) (ap (λ (q : ItemsOut). q.items) e) (c.faults ∙ append_assoc a.faults.items (faults o) (fault_of v)) c.drafts;
       verdict = h.verdict ∙ ap (λ (q : ItemsOut). q.verdict) e;
     }
+
+pub items_step : (path : Scopes) (whole : ItemsOut) (start : List Diagnostic) (xs : List Item) (i : ℕ) (x : Item) (last : Bool) (a b : Checker) (old new : Items) → i < length xs → x ≡ get_or xs i x → last ≡ is_last (items_of (map item_tree (drop (i + 1) xs)))
+    → ItemChecked path last a b old new (item_tree x)
+    → ItemsSoFar start a.faults.items (map item_view old.drafts.items) whole (typed_items path (view.verdict old.verdict) (items_of (map item_tree (drop i xs))))
+    → ItemsSoFar start b.faults.items (map item_view new.drafts.items) whole (typed_items path (view.verdict new.verdict) (items_of (map item_tree (drop (i + 1) xs))))
+items_step path whole start xs i x last a b old new within is at_end c h =
+    items_turn path whole start (item_tree x) (items_of (map item_tree (drop (i + 1) xs))) last a b old new at_end c
+    (subst (λ ys. ItemsSoFar start a.faults.items (map item_view old.drafts.items) whole (typed_items path (view.verdict old.verdict) (items_of (map item_tree ys)))) (next xs i x within is) h)
+
+-- an item with what is found of its phrase
+pub item_checked : {E : Type 0} (r : Result (Unit {0}) E) (path : Scopes) (last : Bool) (y : tree.Item) (labels : List Placed) (p : tree.Phrase) (a b : Checker) (old new : Items) (v : Verdict) (i : typed.Item) → y ≡ tree.Labelled labels p
+    → v ≡ end_of last (has_labels labels) (first_token p) (typed_phrase path p) → b.faults.items ≡ a.faults.items ++ faults (typed_phrase path p) ++ fault_of v → i ≡ typed.Labelled (declare_at labels) (typed_phrase path p).node
+    → OnOk r (view.verdict new.verdict ≡ then_item (view.verdict old.verdict) v) → OnOk r (map item_view new.drafts.items ≡ map item_view old.drafts.items ++ i ∷ []) → OnOk r (ItemChecked path last a b old new y)
+item_checked (Err e) path last y labels p a b old new v i is v_is f i_is hv hd = tt
+item_checked (Ok u) path last y labels p a b old new v i is v_is f i_is hv hd =
+    let o : Out = typed_phrase path p in
+    subst (λ (z : tree.Item). ItemChecked path last a b old new z) (sym is) (record {
+      faults = f ∙ ap (λ (w : Verdict). a.faults.items ++ faults o ++ fault_of w) v_is;
+      verdict = hv ∙ ap (then_item (view.verdict old.verdict)) v_is;
+      drafts = hd ∙ ap (λ (j : typed.Item). map item_view old.drafts.items ++ j ∷ []) i_is;
+    })
+
+pub labelled_is : (l : Labelled) → labelled_tree l ≡ tree.Labelled (out-Labelled l).labels.items (phrase_tree (out-Labelled l).phrase.value)
+unfolding out-Labelled denote.Hole.Carrier.out
+labelled_is (Labelled' labels q place first kind) = refl
+
+-- nothing as an item, which is the last or not, is a statement
+pub empty_end : (last : Bool) (p : Place) → Good Statement ≡ end_of last false p (empty_out p p)
+empty_end true p = refl
+empty_end false p = refl
+
+pub no_fault : (fs : List Diagnostic) → fs ≡ fs ++ [] ++ []
+no_fault fs = sym (append-nil (fs ++ []) ∙ append-nil fs)
+
+-- an item is smaller than all of them
+abbrev pub phrase_in : tree.Item → tree.Phrase
+phrase_in (tree.Labelled labels p) = p
+
+pub size_item : (i : tree.Item) (is : tree.Items) → size_items (tree.item_and i is) ≡ suc (size (phrase_in i) + size_items is)
+size_item (tree.Labelled labels p) is = refl
 
 -- ---- what declarations make of their names, and their bounds, which are kept
 

@@ -1,5 +1,6 @@
 pub mod BlockFound
 pub mod BlockSteps
+pub mod CaseSteps
 pub mod ForSteps
 pub mod Givens
 pub mod ListSteps

@@ -20,8 +20,7 @@ use Rattle.phrase_checker.specs.declared.checker.Checker.{Checker}
 use Rattle.typed_phrases.specs.declared.making.Typed.{Typed}
 use Rattle.typed_phrases.specs.declared.making.Phrases.{Phrases}
 use Rattle.typed_phrases.specs.declared.making.Links.{Links}
-use Rattle.typed_drafts.specs.DraftView.{draft_view}
-use Rattle.typed_drafts.specs.DraftParts.{link_view}
+use Rattle.typed_drafts.specs.DraftView.{draft_view, link_view}
 use Rattle.typed_phrases.specs.Found.{Finds, found_view}
 use Rattle.typed_phrases.specs.FoundParts.{given_view}
 use Rattle.typed_phrases.specs.Prefixes.{prefixed, prefixed_out}

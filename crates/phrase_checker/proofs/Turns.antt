@@ -1,11 +1,12 @@
 -- The turns of loops over parts, which find the whole part by part.
-use Rattle.std.proofs.Common.{◌≡◌, List, [], ◌∷◌, ◌++◌, Option, refl, sym, ap, ◌∙◌, append_assoc}
+use Rattle.std.proofs.Common.{◌≡◌, List, [], ◌∷◌, ◌++◌, Option, Some, None, refl, sym, ap, ◌∙◌, append_assoc}
 use Rattle.value_ops.specs.declared.places.Diagnostic.{Diagnostic}
 use Rattle.value_ops.specs.declared.places.Place.{Place}
 use Rattle.algolw_tree.specs.declared.phrases.Op.{Op}
-use Rattle.algolw_typing.specs.Types.{Gives}
+use Rattle.algolw_typing.specs.Types.{Gives, Statement, Simple}
 use Rattle.algolw_typing.specs.Typed as typed
 use Rattle.algolw_typing.specs.Typing.{Out, PhrasesOut, out_and, faults, gives, LinksOut, link_out}
+use Rattle.typed_phrases.specs.Cases.{both_give, together}
 use Rattle.typed_drafts.specs.Onto.{nodes_onto, links_onto, lists_onto, actuals_onto, items_onto, bounds_onto, decls_onto}
 
 pub nodes_more : (xs : List typed.Node) (x : typed.Node) (rest : typed.Nodes) → nodes_onto (xs ++ x ∷ []) rest ≡ nodes_onto xs (typed.node_and x rest)
@@ -22,6 +23,12 @@ pub record PhrasesSoFar (start now : List Diagnostic) (gs : List (Option Gives))
   pub gives : whole.gives ≡ gs ++ rest.gives
   pub nodes : whole.nodes ≡ nodes_onto ns rest.nodes
 
+-- the same of the statements of a CASE, of which is kept what they give together
+pub record CasesSoFar (start now : List Diagnostic) (g : Option Gives) (ns : List typed.Node) (whole rest : PhrasesOut) : Type 0 where
+  pub faults : start ++ whole.inside ≡ now ++ rest.inside
+  pub gives : together whole.gives ≡ both_give g (together rest.gives)
+  pub nodes : whole.nodes ≡ nodes_onto ns rest.nodes
+
 pub record LinksSoFar (start now : List Diagnostic) (ls : List typed.Link) (whole rest : LinksOut) : Type 0 where
   pub faults : start ++ whole.inside ≡ now ++ rest.inside
   pub verdict : whole.verdict ≡ rest.verdict
@@ -34,6 +41,28 @@ phrases_turn start now later gs gs' ns ns' whole rest rest' o h e f g n = record
   gives = h.gives ∙ ap (λ (r : PhrasesOut). gs ++ r.gives) e ∙ sym (append_assoc gs (gives o ∷ []) rest'.gives) ∙ ap (λ xs. xs ++ rest'.gives) (sym g);
   nodes = h.nodes ∙ ap (λ (r : PhrasesOut). nodes_onto ns r.nodes) e ∙ sym (nodes_more ns o.node rest'.nodes) ∙ ap (λ xs. nodes_onto xs rest'.nodes) (sym n);
 }
+
+both_both : (a b c : Option Gives) → both_give (both_give a b) c ≡ both_give a (both_give b c)
+both_both None b c = refl
+both_both (Some Statement) b c = refl
+both_both (Some (Simple t)) None c = refl
+both_both (Some (Simple t)) (Some Statement) c = refl
+both_both (Some (Simple t)) (Some (Simple u)) None = refl
+both_both (Some (Simple t)) (Some (Simple u)) (Some g) = refl
+
+pub cases_turn : (start now later : List Diagnostic) (g g' : Option Gives) (ns ns' : List typed.Node) (whole rest rest' : PhrasesOut) (o : Out) → CasesSoFar start now g ns whole rest → rest ≡ out_and o rest' → later ≡ now ++ faults o → g' ≡ both_give g (gives o) → ns' ≡ ns ++ o.node ∷ []
+    → CasesSoFar start later g' ns' whole rest'
+cases_turn start now later g g' ns ns' whole rest rest' o h e f k n = record {
+  faults = h.faults ∙ ap (λ (r : PhrasesOut). now ++ r.inside) e ∙ sym (append_assoc now (faults o) rest'.inside) ∙ ap (λ xs. xs ++ rest'.inside) (sym f);
+  gives = h.gives ∙ ap (λ (r : PhrasesOut). both_give g (together r.gives)) e ∙ sym (both_both g (gives o) (together rest'.gives)) ∙ ap (λ (x : Option Gives). both_give x (together rest'.gives)) (sym k);
+  nodes = h.nodes ∙ ap (λ (r : PhrasesOut). nodes_onto ns r.nodes) e ∙ sym (nodes_more ns o.node rest'.nodes) ∙ ap (λ xs. nodes_onto xs rest'.nodes) (sym n);
+}
+
+-- behind the last statement
+pub both_all : (g : Option Gives) → both_give g (together []) ≡ g
+both_all None = refl
+both_all (Some Statement) = refl
+both_all (Some (Simple t)) = refl
 
 pub links_turn : (start now later : List Diagnostic) (ls ls' : List typed.Link) (whole rest rest' : LinksOut) (op : Op) (p : Place) (o : Out) → LinksSoFar start now ls whole rest → rest ≡ link_out op p o rest' → later ≡ now ++ faults o → ls' ≡ ls ++ typed.Linked op p o.node ∷ []
     → LinksSoFar start later ls' whole rest'

@@ -1,24 +1,26 @@
 -- What checking a part of a program finds, and which faults it adds.
-use Rattle.std.specs.Prelude.{◌≡◌, ℕ, List, [], ◌∷◌, ◌++◌, map, Option, Some, None}
+use Rattle.std.specs.Prelude.{◌≡◌, ℕ, Bool, List, [], ◌∷◌, ◌++◌, map, Option, Some, None}
 use Rattle.value_ops.specs.declared.places.Place.{Place}
 use Rattle.algolw_tree.specs.Tree.{Placed}
 use Rattle.algolw_tree.specs.Tree as tree
-use Rattle.algolw_typing.specs.Rows.{bound_row}
+use Rattle.algolw_typing.specs.Rows.{bound_row, item_row}
 use Rattle.algolw_typing.specs.Scopes.{Scopes}
 use Rattle.algolw_typing.specs.Typed as typed
-use Rattle.algolw_typing.specs.Typing.{Out, faults, gives, PhrasesOut, LinksOut, PartsOut, BoundsOut, DeclsOut, ItemsOut, declare_at, then_item, typed_kind, typed_phrase}
-use Rattle.algolw_typing.specs.Verdicts.{Verdict, fault_of, two_parts}
+use Rattle.algolw_typing.specs.Typing.{Out, faults, gives, PhrasesOut, LinksOut, PartsOut, BoundsOut, DeclsOut, ItemsOut, declare_at, first_token, has_labels, then_item, typed_kind, typed_phrase}
+use Rattle.algolw_typing.specs.Verdicts.{Verdict, fault_of, part as with_part, two_parts}
 use Rattle.typing_rules.specs.MeaningView.{part}
 use Rattle.typing_rules.specs.View as view
-use Rattle.typed_drafts.specs.DraftView.{draft_view, actual_view}
-use Rattle.typed_drafts.specs.DraftParts.{list_view, item_view, bound_view}
+use Rattle.typed_drafts.specs.DraftView.{draft_view, actual_view, item_view, part_view}
+use Rattle.typed_drafts.specs.DraftParts.{list_view, bound_view}
 use Rattle.typed_drafts.specs.Onto.{bounds_onto}
 use Rattle.typed_drafts.specs.declared.drafts.DraftBound.{DraftBound}
 use Rattle.typed_drafts.specs.declared.drafts.DraftDecl.{DraftDecl}
 use Rattle.typed_phrases.specs.Items.{decls_view, items_view}
 use Rattle.typed_phrases.specs.Fronts.{complete, ListOut, ActualOut}
 use Rattle.typed_phrases.specs.FrontViews.{front_view, parts_view}
+use Rattle.typed_phrases.specs.Cases.{AreFound, both_give}
 use Rattle.typed_phrases.specs.declared.actuals.Parts.{Parts}
+use Rattle.typed_phrases.specs.declared.cases.Cases.{Cases}
 use Rattle.typed_phrases.specs.declared.designators.Lists.{Lists}
 use Rattle.typed_phrases.specs.declared.items.Items.{Items}
 use Rattle.declared_names.specs.declared.known.KnownPath.{KnownPath}
@@ -29,7 +31,7 @@ use Rattle.typed_phrases.specs.declared.statements.Range.{Range}
 use Rattle.typed_phrases.specs.declared.making.Typed.{Typed}
 use Rattle.typed_phrases.specs.declared.making.Phrases.{Phrases}
 use Rattle.typed_phrases.specs.declared.making.Links.{Links}
-use Rattle.typed_phrases.specs.FoundParts.{phrases_view, links_view}
+use Rattle.typed_phrases.specs.FoundParts.{given_view, phrases_view, links_view}
 
 -- what the rules find of a phrase of a kind that stands at a spot
 abbrev pub kind_at : KnownPath → Spot → tree.Kind → Out
@@ -72,6 +74,16 @@ pub record PhrasesChecked (old new : Checker) (f : Phrases) (o : PhrasesOut) : T
   pub gives : (phrases_view f).gives ≡ o.gives
   pub nodes : (phrases_view f).nodes ≡ o.nodes
 
+-- a statement of a CASE, and all of them
+pub record CaseChecked (old new : Checker) (before after : Cases) (o : Out) : Type 0 where
+  pub faults : new.faults.items ≡ old.faults.items ++ faults o
+  pub gives : given_view after.gives ≡ both_give (given_view before.gives) (gives o)
+  pub drafts : map part_view after.drafts.items ≡ map part_view before.drafts.items ++ o.node ∷ []
+
+pub record CasesChecked (old new : Checker) (f : Cases) (o : PhrasesOut) : Type 0 where
+  pub faults : new.faults.items ≡ old.faults.items ++ o.inside
+  pub found : AreFound f o
+
 pub record LinksChecked (old new : Checker) (f : Links) (o : LinksOut) : Type 0 where
   pub faults : new.faults.items ≡ old.faults.items ++ o.inside
   pub verdict : (links_view f).verdict ≡ o.verdict
@@ -108,11 +120,26 @@ pub record DeclsChecked (old new : Checker) (ds : List DraftDecl) (o : DeclsOut)
   pub faults : new.faults.items ≡ old.faults.items ++ o.inside
   pub decls : decls_view ds ≡ o.decls
 
+-- the verdict of an item, which is the last or not, by what is found of its phrase
+abbrev pub end_of : (is_last is_labelled : Bool) → Place → Out → Verdict
+end_of is_last is_labelled first o = with_part (gives o) (item_row is_last is_labelled first)
+
+-- the phrase of an item, found with the verdict of the item, whose fault is added too
+pub record EndChecked (old new : Checker) (t : Typed) (is_last is_labelled : Bool) (first : Place) (o : Out) : Type 0 where
+  pub faults : new.faults.items ≡ old.faults.items ++ faults o ++ fault_of (view.verdict t.verdict)
+  pub verdict : view.verdict t.verdict ≡ end_of is_last is_labelled first o
+  pub node : draft_view t.draft.now ≡ o.node
+
 -- an item with a verdict, and all items
-pub record ItemChecked (old new : Checker) (before after : Items) (labels : List Placed) (o : Out) (v : Verdict) : Type 0 where
+pub record ItemFound (old new : Checker) (before after : Items) (labels : List Placed) (o : Out) (v : Verdict) : Type 0 where
   pub faults : new.faults.items ≡ old.faults.items ++ faults o ++ fault_of v
   pub verdict : view.verdict after.verdict ≡ then_item (view.verdict before.verdict) v
   pub drafts : map item_view after.drafts.items ≡ map item_view before.drafts.items ++ typed.Labelled (declare_at labels) o.node ∷ []
+
+abbrev pub ItemChecked : Scopes → (is_last : Bool) → Checker → Checker → Items → Items → tree.Item → Type 0
+ItemChecked path is_last old new before after (tree.Labelled labels a) =
+    let o = typed_phrase path a in
+    ItemFound old new before after labels o (end_of is_last (has_labels labels) (first_token a) o)
 
 pub record ItemsChecked (old new : Checker) (f : Items) (o : ItemsOut) : Type 0 where
   pub faults : new.faults.items ≡ old.faults.items ++ o.inside

@@ -2,28 +2,26 @@ ghost use Rattle.std.specs.Prelude as std;
 ghost use Rattle.std.specs.Prelude.{◌≡◌, ℕ, ◌∷◌, ◌++◌, IfOk, OnOk, length, map};
 ghost use Rattle.algolw_tree.specs.Grammar.{actuals_of, bounds_of, decls_of, items_of, links_of, lists_of, phrases_of};
 ghost use Rattle.algolw_tree.specs.Tree as kinds;
-ghost use Rattle.algolw_tree.specs.View.{actual_tree, bound_tree, decl_tree, item_tree, link_tree, list_tree, procedure_tree, tree};
+ghost use Rattle.algolw_tree.specs.View.{actual_tree, bound_tree, decl_tree, item_tree, labelled_tree, link_tree, list_tree, part_tree, procedure_tree, tree};
 ghost use Rattle.algolw_typing.specs.Scopes as scopes;
 ghost use Rattle.algolw_typing.specs.Scopes.{Scopes};
 ghost use Rattle.algolw_typing.specs.Types.{Statement};
 ghost use Rattle.algolw_typing.specs.Typing as rules;
 ghost use Rattle.algolw_typing.specs.Typing.{typed_bounds, typed_decl, typed_decls, typed_items, typed_links, typed_parts, typed_phrase, typed_phrases};
-ghost use Rattle.algolw_typing.specs.Faults.{faults_found, typed_program};
-ghost use Rattle.algolw_typing.specs.Rows as rows;
-ghost use Rattle.algolw_typing.specs.Verdicts.{Good, fault_of, part, type_of};
-ghost use Rattle.typed_drafts.specs.DraftView.{draft_view};
+ghost use Rattle.algolw_typing.specs.Verdicts.{Good, fault_of};
 ghost use Rattle.typing_rules.specs.MeaningView as meaning_view;
 ghost use Rattle.typing_rules.specs.View as view;
 ghost use Rattle.declared_names.specs.Blocks.{DeclFound, bounds_view, decl_bounds, each_bounds};
-ghost use Rattle.typed_phrases.specs.Items.{item_end};
-ghost use Rattle.phrase_checker.specs.Checked.{ActualChecked, BoundChecked, BoundsChecked, Checked, DeclsChecked, ItemChecked, ItemsChecked, LinksChecked, ListChecked, Noted, PairChecked, PartsChecked, PhrasesChecked, RangeChecked, StepChecked, kind_at};
+ghost use Rattle.phrase_checker.specs.Checked.{ActualChecked, BoundChecked, BoundsChecked, CaseChecked, CasesChecked, Checked, DeclsChecked, EndChecked, ItemChecked, ItemsChecked, LinksChecked, ListChecked, Noted, PairChecked, PartsChecked, PhrasesChecked, RangeChecked, StepChecked, kind_at};
 ghost use Rattle.typed_phrases.specs.FrontViews.{front_view};
 ghost use Rattle.typed_phrases.specs.Prefixes as prefixes;
 ghost use Rattle.typed_phrases.specs.Fronts.{actual_step, list_step};
 ghost use Rattle.declared_names.specs.KnownPaths.{path_view};
 ghost use Rattle.algolw_tree.specs.View.{optional_tree};
 
-use algolw_tree::{Actual, Bound, Decl, Item, Kind, Link, List, ListKind, Phrase, ProcDecl, RelOp};
+use algolw_tree::{
+    Actual, Bound, Decl, Item, Kind, Labelled, Link, List, ListKind, Part, Phrase, ProcDecl, RelOp,
+};
 use bumpalo::Bump;
 use bumpalo::collections::into_bump_slice;
 use declared_names::{
@@ -32,28 +30,28 @@ use declared_names::{
     read_head, simple, twice,
 };
 use std::alloc::{AllocError, Global};
-use typed_drafts::{Draft, DraftBound, DraftDecl, DraftKind};
+use typed_drafts::{DraftBound, DraftDecl, DraftItem, DraftKind, DraftPart};
 use typed_phrases::{
-    Front, Items, Links, Lists, Parts, Phrases, Prefix, Range, Spot, Typed, assigned, block,
-    case_do, case_value, chained, control_scope, empty, for_list, for_range, if_else, if_then,
-    is_class, item_verdict, jump, leaf, left_of, named, noted, prefixed, quoted, read, relation,
-    while_do,
+    Cases, Front, Items, Links, Lists, Parts, Phrases, Prefix, Range, Spot, Typed, assigned, block,
+    case_do, case_value, chained, control_scope, empty, for_list, for_range, has_labels, if_else,
+    if_then, is_class, item_verdict, jump, labelled, leaf, left_of, named, noted, prefixed, quoted,
+    read, relation, while_do,
 };
-use typing_rules::{ClassSet, NoType, Reading, ValueType, Verdict, Wanted, program_row};
+use typing_rules::{ClassSet, NoType, PhraseType, Reading, ValueType, Verdict, Wanted};
 use value_ops::{Diagnostic, Name, Place};
 
 /// Checks the phrases of a program.
 #[derive(Drop)]
-struct Checker<'a> {
-    alloc: Global,
-    arena: &'a Bump,
+pub(crate) struct Checker<'a> {
+    pub(crate) alloc: Global,
+    pub(crate) arena: &'a Bump,
     /// The faults that were found, in the order of the rules.
-    faults: Vec<Diagnostic>,
+    pub(crate) faults: Vec<Diagnostic>,
 }
 
 impl<'a> Checker<'a> {
     /// Adds the fault of a verdict.
-    fn note(&mut self, verdict: Verdict) -> Result<(), AllocError>
+    pub(crate) fn note(&mut self, verdict: Verdict) -> Result<(), AllocError>
         ensures { OnOk result (self.new.faults.items ≡ self.old.faults.items ++ fault_of (view.verdict verdict.entry)) }
     {
         if let Err(NoType::Fault(fault)) = verdict {
@@ -64,7 +62,11 @@ impl<'a> Checker<'a> {
 
     /// Checks a phrase, and adds its faults.
     #[cycle(phrases)]
-    fn phrase(&mut self, path: &KnownPath<'_, 'a>, phrase: &Phrase) -> Result<Typed<'a>, AllocError>
+    pub(crate) fn phrase(
+        &mut self,
+        path: &KnownPath<'_, 'a>,
+        phrase: &Phrase,
+    ) -> Result<Typed<'a>, AllocError>
         ensures { IfOk result (λ t. Noted self.old self.new t (typed_phrase (path_view path.now) (tree phrase.now))) }
     {
         let typed = self.inside(path, phrase)?;
@@ -105,17 +107,23 @@ impl<'a> Checker<'a> {
             Kind::CaseDo(subject, parts) => self.case_do(path, spot, subject, parts),
             Kind::WhileDo(condition, body) => self.while_do(path, spot, condition, body),
             Kind::Assert(condition) => self.prefixed(path, spot, Prefix::Assert, condition),
-            Kind::Quoted(text) => quoted(spot, *text),
-            Kind::Goto(name) => jump(spot, path, name),
+            Kind::Quoted(text) => quoted(spot, *text.get()),
+            Kind::Goto(name) => jump(spot, path, name.get()),
             Kind::IsClass(operand, name, place) => {
-                self.is_class(path, spot, operand, name, *place)
+                self.is_class(path, spot, operand, name.get(), *place)
             }
             Kind::Assign(target, value) => self.assign(path, spot, target, value),
             Kind::ForStep(name, start, step, limit, body) => {
-                self.for_range(path, spot, name, start, step, limit, body)
+                self.for_range(path, spot, name.get(), start, step, limit, body)
             }
-            Kind::ForList(name, values, body) => self.for_list(path, spot, name, values, body),
-            Kind::Named(name, lists) => self.named(path, spot, name, lists),
+            Kind::ForList(name, values, body) => self.for_list(
+                path,
+                spot,
+                name.get(),
+                values,
+                body,
+            ),
+            Kind::Named(name, lists) => self.named(path, spot, name.get(), lists),
             Kind::Block(decls, items) => self.block(path, spot, decls, items),
         }
     }
@@ -265,14 +273,47 @@ impl<'a> Checker<'a> {
         path: &KnownPath<'_, 'a>,
         spot: Spot<'a>,
         subject: &Phrase,
-        parts: &[Phrase],
+        parts: &[Part],
     ) -> Result<Typed<'a>, AllocError>
         ensures { IfOk result (λ t. Checked self.old self.new t
-            (kind_at path.now spot.entry (kinds.CaseDo (tree subject.now) (phrases_of (map tree parts.now))))) }
+            (kind_at path.now spot.entry (kinds.CaseDo (tree subject.now) (phrases_of (map part_tree parts.now))))) }
     {
         let subject = self.phrase(path, subject)?;
-        let parts = self.phrases(path, parts)?;
-        case_do(spot, subject, parts)
+        let cases = self.cases(path, parts)?;
+        case_do(spot, subject, cases)
+    }
+
+    /// Checks the statements of a CASE.
+    #[cycle(phrases)]
+    fn cases(&mut self, path: &KnownPath<'_, 'a>, parts: &[Part]) -> Result<Cases<'a>, AllocError>
+        ensures { IfOk result (λ found. CasesChecked self.old self.new found
+            (typed_phrases (path_view path.now) (phrases_of (map part_tree parts.now)))) }
+    {
+        let mut found = Cases::with_capacity(self.arena, parts.len())?;
+        for part in parts {
+            self.case(path, part, &mut found)?;
+        }
+        Ok(found)
+    }
+
+    /// Checks a statement of a CASE.
+    #[cycle(phrases)]
+    fn case(
+        &mut self,
+        path: &KnownPath<'_, 'a>,
+        part: &Part,
+        found: &mut Cases<'a>,
+    ) -> Result<(), AllocError>
+        ensures { OnOk result (CaseChecked self.old self.new found.old found.new
+            (typed_phrase (path_view path.now) (part_tree part.now))) }
+    {
+        match part {
+            Part::Empty(place) => found.add(DraftPart::Empty(*place), Ok(PhraseType::Statement)),
+            Part::Phrase(phrase) => {
+                let typed = self.phrase(path, phrase)?;
+                found.add(DraftPart::Phrase(typed.draft), typed.verdict)
+            }
+        }
     }
 
     /// Checks phrases.
@@ -704,15 +745,54 @@ impl<'a> Checker<'a> {
         item: &Item,
         found: &mut Items<'a>,
     ) -> Result<(), AllocError>
-        ensures { OnOk result (ItemChecked self.old self.new found.old found.new item.now.labels.items
-            (typed_phrase (path_view path.now) (tree item.now.phrase))
-            (item_end is_last item.now.labels.items (tree item.now.phrase)
-            (typed_phrase (path_view path.now) (tree item.now.phrase)))) }
+        ensures { OnOk result (ItemChecked (path_view path.now) is_last self.old self.new
+            found.old found.new (item_tree item.now)) }
     {
-        let typed = self.phrase(path, &item.phrase)?;
-        let verdict = item_verdict(is_last, &item.labels, item.phrase.first, typed.verdict);
+        match item {
+            Item::Empty(place) => found.add(DraftItem::Empty(*place), Ok(PhraseType::Statement)),
+            Item::Plain(phrase) => {
+                let typed = self.item_phrase(path, is_last, false, phrase)?;
+                found.add(DraftItem::Plain(typed.draft), typed.verdict)
+            }
+            Item::Labelled(item) => self.labelled_item(path, is_last, item, found),
+        }
+    }
+
+    /// Checks an item behind its labels.
+    #[cycle(phrases)]
+    fn labelled_item(
+        &mut self,
+        path: &KnownPath<'_, 'a>,
+        is_last: bool,
+        item: &Labelled,
+        found: &mut Items<'a>,
+    ) -> Result<(), AllocError>
+        ensures { OnOk result (ItemChecked (path_view path.now) is_last self.old self.new
+            found.old found.new (labelled_tree item.now)) }
+    {
+        let is_labelled = has_labels(&item.labels);
+        let typed = self.item_phrase(path, is_last, is_labelled, &item.phrase)?;
+        let item = labelled(self.arena, &item.labels, typed.draft)?;
+        found.add(item, typed.verdict)
+    }
+
+    /// Checks the phrase of an item: what is found has the verdict of the item.
+    #[cycle(phrases)]
+    fn item_phrase(
+        &mut self,
+        path: &KnownPath<'_, 'a>,
+        is_last: bool,
+        is_labelled: bool,
+        phrase: &Phrase,
+    ) -> Result<Typed<'a>, AllocError>
+        ensures { IfOk result (λ t. EndChecked self.old self.new t is_last is_labelled phrase.now.first
+            (typed_phrase (path_view path.now) (tree phrase.now))) }
+    {
+        let typed = self.phrase(path, phrase)?;
+        let verdict = item_verdict(is_last, is_labelled, phrase.first, typed.verdict);
         self.note(verdict)?;
-        found.add(self.arena, &item.labels, typed.draft, verdict)
+        let draft = typed.draft;
+        Ok(Typed { verdict, draft })
     }
 }
 
@@ -721,46 +801,4 @@ fn kept<'a>(arena: &'a Bump, faults: &[Diagnostic]) -> Result<&'a [Diagnostic], 
     ensures { IfOk result (λ kept. kept.now ≡ faults.now) }
 {
     Ok(arena.try_alloc_slice_copy(faults)?)
-}
-
-/// What is found of a program, and all its faults, in the order of the rules.
-#[derive(Drop)]
-pub struct FoundProgram<'a> {
-    /// The program.
-    pub draft: &'a Draft<'a>,
-    /// The faults.
-    pub faults: Vec<Diagnostic>,
-}
-
-/// The verdict of a program, at `BEGIN`, by that of its block.
-fn program_verdict<'a>(place: Place, block: Verdict<'a>) -> Verdict<'a>
-    ensures { view.verdict result ≡ part (type_of (view.verdict block.entry)) (rows.program_row place) }
-{
-    match block {
-        Ok(gives) => program_row(place, gives),
-        Err(_) => Err(NoType::Silent),
-    }
-}
-
-/// Checks a program, with the standard names in a block round it.
-pub fn check_program<'a>(
-    alloc: Global,
-    arena: &'a Bump,
-    phrase: &Phrase,
-) -> Result<FoundProgram<'a>, AllocError>
-    ensures draft { IfOk result (λ found. draft_view found.draft.now ≡ (typed_program (tree phrase.now)).node) }
-    ensures faults { IfOk result (λ found. found.faults.items
-        ≡ faults_found (tree phrase.now) (typed_program (tree phrase.now))) }
-{
-    let mut checker = Checker {
-        alloc,
-        arena,
-        faults: Vec::new(alloc),
-    };
-    let typed = checker.phrase(&KnownPath::Standard, phrase)?;
-    checker.note(program_verdict(phrase.place, typed.verdict))?;
-    Ok(FoundProgram {
-        draft: typed.draft,
-        faults: checker.faults,
-    })
 }

@@ -2,5 +2,6 @@
 #![tactic(auto)]
 
 mod checker;
+mod program;
 
-pub use checker::{FoundProgram, check_program};
+pub use program::{FoundProgram, check_program};

@@ -12,7 +12,9 @@ use Rattle.algolw_tree.specs.declared.programs.Node.{Node}
 use Rattle.algolw_tree.specs.declared.programs.NodeKind.{NodeKind, Named, Chain, IfThen, CaseValue, CaseDo, ForStep, ForList, Block}
 use Rattle.algolw_tree.specs.declared.programs.TypedLink.{TypedLink}
 use Rattle.algolw_tree.specs.declared.programs.TypedList.{TypedList}
-use Rattle.algolw_tree.specs.declared.programs.TypedItem.{TypedItem}
+use Rattle.algolw_tree.specs.declared.programs.TypedItem.{TypedItem, Labelled}
+use Rattle.algolw_tree.specs.declared.programs.TypedLabelled.{TypedLabelled, roll-TypedLabelled}
+use Rattle.algolw_tree.specs.declared.programs.TypedPart.{TypedPart}
 use Rattle.algolw_tree.specs.declared.programs.TypedActual.{TypedActual}
 use Rattle.algolw_tree.specs.declared.programs.TypedBound.{TypedBound}
 use Rattle.algolw_tree.specs.declared.programs.TypedDecl.{TypedDecl, Array}
@@ -21,13 +23,13 @@ use Rattle.algolw_tree.specs.declared.programs.TypedFormal.{TypedFormal}
 use Rattle.algolw_tree.specs.declared.programs.TypedProc.{roll-TypedProc}
 use Rattle.algolw_typing.specs.Types as types
 use Rattle.algolw_typing.specs.Typed as typed
-use Rattle.algolw_typing.specs.ProgramView.{numbered, at_view, node_view, kind_view, listing_view, actual_view, decl_view, gives_view, type_view, formal_view, targets_view, procedure_view}
+use Rattle.algolw_typing.specs.ProgramView.{numbered, at_view, node_view, kind_view, listing_view, actual_view, part_view, item_view, labelled_view, decl_view, gives_view, type_view, formal_view, procedure_view}
 use Rattle.typed_drafts.specs.Onto.{nodes_onto, links_onto, lists_onto, actuals_onto, items_onto, decls_onto, bounds_onto}
 use Rattle.program_numbers.specs.Makes.{Makes, numbers_in, target_in}
-use Rattle.program_numbers.specs.ProgramParts.{perhaps_in, link_in, list_in, item_in, bound_in}
+use Rattle.program_numbers.specs.ProgramParts.{perhaps_in, link_in, list_in, bound_in}
 use Rattle.program_numbers.specs.declared.numbering.Numbering.{Numbering}
 use Rattle.program_numbers.proofs.Making.{makes_of, makes_both, made_two, made_three}
-use Rattle.program_numbers.proofs.ProcedureParts.{procedure_in}
+use Rattle.program_numbers.proofs.ProcedureParts.{labelled_in, procedure_in}
 use Rattle.program_numbers.proofs.ProgramRows.{named_in, chain_in, if_in, case_value_in, case_do_in, for_step_in, for_list_in, block_in, actuals_in, array_in}
 
 module _ (n : Numbering) where
@@ -53,7 +55,7 @@ module _ (n : Numbering) where
       → Makes n a c (λ ns. kind_view ns (CaseValue x v)) (typed.CaseValue subject (nodes_onto values typed.no_nodes))
   case_value_made a b c x v subject values f g = made_two n a b c _ _ subject values (λ y ys. typed.CaseValue y (nodes_onto ys typed.no_nodes)) _ (λ sets. case_value_in (numbers_in n sets) x v) f g
 
-  pub case_do_made : (a b c : Classes) (x : Box Node Global) (v : Vec Node Global) (subject : typed.Node) (parts : List typed.Node) → Makes n a b (λ ns. node_view ns x.value) subject → Makes n b c (λ ns. map (node_view ns) v.items) parts
+  pub case_do_made : (a b c : Classes) (x : Box Node Global) (v : Vec TypedPart Global) (subject : typed.Node) (parts : List typed.Node) → Makes n a b (λ ns. node_view ns x.value) subject → Makes n b c (λ ns. map (part_view ns) v.items) parts
       → Makes n a c (λ ns. kind_view ns (CaseDo x v)) (typed.CaseDo subject (nodes_onto parts typed.no_nodes))
   case_do_made a b c x v subject parts f g = made_two n a b c _ _ subject parts (λ y ys. typed.CaseDo y (nodes_onto ys typed.no_nodes)) _ (λ sets. case_do_in (numbers_in n sets) x v) f g
 
@@ -71,7 +73,7 @@ module _ (n : Numbering) where
       made_two n a b c _ _ values body (λ ys y. typed.ForList control (nodes_onto ys typed.no_nodes) y) _
       (λ sets. for_list_in (numbers_in n sets) m v x ∙ ap (λ p. typed.ForList p (nodes_onto (map (node_view (numbers_in n sets)) v.items) typed.no_nodes) (node_view (numbers_in n sets) x.value)) is) f g
 
-  pub block_made : (a b c : Classes) (ds : Vec TypedDecl Global) (is : Vec TypedItem Global) (decls : List typed.Decl) (items : List typed.Item) → Makes n a b (λ ns. map (decl_view ns) ds.items) decls → Makes n b c (λ ns. map (item_in ns) is.items) items
+  pub block_made : (a b c : Classes) (ds : Vec TypedDecl Global) (is : Vec TypedItem Global) (decls : List typed.Decl) (items : List typed.Item) → Makes n a b (λ ns. map (decl_view ns) ds.items) decls → Makes n b c (λ ns. map (item_view ns) is.items) items
       → Makes n a c (λ ns. kind_view ns (Block ds is)) (typed.Block (decls_onto decls typed.no_decls) (items_onto items typed.no_items))
   block_made a b c ds is decls items f g = made_two n a b c _ _ decls items (λ xs ys. typed.Block (decls_onto xs typed.no_decls) (items_onto ys typed.no_items)) _ (λ sets. block_in (numbers_in n sets) ds is) f g
 
@@ -92,7 +94,8 @@ module _ (n : Numbering) where
       made_three n a b c d _ _ _ type formals body (λ p q r. typed.Proc place p name q r) _
       (λ sets. procedure_in (numbers_in n sets) place t m fs x ∙ ap (λ z. typed.Proc place (option_map (type_view (numbers_in n sets)) t) z (map (formal_view (numbers_in n sets)) fs.items) (node_view (numbers_in n sets) x.value)) e) f g h
 
-  pub item_made : (a b : Classes) (ts : Vec (ℕ × Place) Global) (x : Node) (labels : List typed.Placed) (phrase : typed.Node) → map (target_in n) ts.items ≡ labels → Makes n a b (λ ns. node_view ns x) phrase
-      → Makes n a b (λ ns. typed.Labelled (targets_view ns ts.items) (node_view ns x)) (typed.Labelled labels phrase)
-  item_made a b ts x labels phrase e f =
-      makes_of n a b _ phrase (typed.Labelled labels) _ _ (λ sets. ap (λ z. typed.Labelled z (node_view (numbers_in n sets) x)) e) refl f
+  pub labelled_made : (a b : Classes) (ts : Vec (ℕ × Place) Global) (x : Node) (y : Box Node Global) (z : Box TypedLabelled Global) (labels : List typed.Placed) (phrase : typed.Node) → map (target_in n) ts.items ≡ labels → Makes n a b (λ ns. node_view ns x) phrase
+      → y.value ≡ x → z.value ≡ roll-TypedLabelled (record { labels = ts; phrase = y }) → Makes n a b (λ ns. item_view ns (Labelled z)) (typed.Labelled labels phrase)
+  labelled_made a b ts x y z labels phrase e f first second =
+      makes_of n a b _ phrase (typed.Labelled labels) _ _
+      (λ sets. ap (labelled_view (numbers_in n sets)) second ∙ labelled_in (numbers_in n sets) ts y ∙ ap (λ ls. typed.Labelled ls (node_view (numbers_in n sets) y.value)) e ∙ ap (λ m. typed.Labelled labels (node_view (numbers_in n sets) m)) first) refl f

@@ -8,7 +8,6 @@ use Rattle.value_ops.specs.declared.values.SimpleType.{SimpleType}
 use Rattle.algolw_tree.specs.declared.programs.Node.{Node}
 use Rattle.algolw_tree.specs.declared.programs.TypedLink.{TypedLink}
 use Rattle.algolw_tree.specs.declared.programs.TypedList.{TypedList}
-use Rattle.algolw_tree.specs.declared.programs.TypedItem.{TypedItem}
 use Rattle.algolw_tree.specs.declared.programs.TypedBound.{TypedBound}
 use Rattle.algolw_typing.specs.Typed as typed
 use Rattle.algolw_typing.specs.ProgramView.{Numbers, node_view, listing_view, type_view, targets_view}
@@ -23,9 +22,6 @@ link_in ns l = typed.Linked l.op l.place (node_view ns l.right)
 
 abbrev pub list_in : Numbers → TypedList → typed.Listing
 list_in ns l = listing_view ns l.place l.kind
-
-abbrev pub item_in : Numbers → TypedItem → typed.Item
-item_in ns i = typed.Labelled (targets_view ns i.labels.items) (node_view ns i.phrase)
 
 abbrev pub bound_in : Numbers → TypedBound → typed.Bound
 bound_in ns b = typed.Between b.place (node_view ns b.lower) (node_view ns b.upper)

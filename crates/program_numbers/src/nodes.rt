@@ -1,24 +1,24 @@
 ghost use Rattle.std.specs.Prelude.{IfOk, map};
 ghost use Rattle.algolw_typing.specs.ProgramView as program;
 ghost use Rattle.algolw_typing.specs.Typed as typed;
-ghost use Rattle.typed_drafts.specs.DraftView.{draft_view, kind_view, actual_view, decl_view, procedure_view};
-ghost use Rattle.typed_drafts.specs.DraftParts.{link_view, list_view, item_view, bound_view};
+ghost use Rattle.typed_drafts.specs.DraftView.{draft_view, kind_view, link_view, part_view, actual_view, item_view, labelled_view, decl_view, procedure_view};
+ghost use Rattle.typed_drafts.specs.DraftParts.{list_view, bound_view};
 ghost use Rattle.typed_drafts.specs.Onto.{nodes_onto, links_onto, lists_onto, actuals_onto, items_onto, bounds_onto, decls_onto};
 ghost use Rattle.typed_drafts.specs.StatementParts.{perhaps_of};
 ghost use Rattle.program_numbers.specs.Makes.{Makes};
-ghost use Rattle.program_numbers.specs.Numbered.{NodeNumbered, KindNumbered, PerhapsNumbered, NodesNumbered, LinksNumbered, ListsNumbered, ListingNumbered, ActualsNumbered, ActualNumbered, ItemsNumbered, BoundsNumbered, DeclsNumbered, DeclNumbered};
-ghost use Rattle.program_numbers.specs.ProgramParts.{perhaps_in, link_in, list_in, item_in, bound_in};
+ghost use Rattle.program_numbers.specs.Numbered.{NodeNumbered, KindNumbered, PerhapsNumbered, NodesNumbered, LinksNumbered, ListsNumbered, ListingNumbered, ActualsNumbered, ActualNumbered, ItemsNumbered, ItemNumbered, BoundsNumbered, DeclsNumbered, DeclNumbered};
+ghost use Rattle.program_numbers.specs.ProgramParts.{perhaps_in, link_in, list_in, bound_in};
 
 use crate::numbering::Numbering;
 use crate::table_builder::TableBuilder;
 use algolw_tree::{
-    Node, NodeKind, RelOp, TypedActual, TypedBound, TypedDecl, TypedItem, TypedLink, TypedList,
-    TypedListKind, TypedProc,
+    Node, NodeKind, RelOp, TypedActual, TypedBound, TypedDecl, TypedItem, TypedLabelled, TypedLink,
+    TypedList, TypedListKind, TypedPart, TypedProc,
 };
 use std::alloc::AllocError;
 use typed_drafts::{
-    Draft, DraftActual, DraftBound, DraftDecl, DraftItem, DraftKind, DraftLink, DraftList,
-    DraftListKind, DraftProc,
+    Draft, DraftActual, DraftBound, DraftDecl, DraftItem, DraftKind, DraftLabelled, DraftLink,
+    DraftList, DraftListKind, DraftPart, DraftProc,
 };
 use value_ops::Place;
 
@@ -243,15 +243,15 @@ impl Numbering {
         &self,
         table: &mut TableBuilder,
         subject: &Draft,
-        parts: &[Draft],
+        parts: &[DraftPart],
     ) -> Result<NodeKind, AllocError>
         requires { KindNumbered self.now (typed.CaseDo (draft_view subject.now)
-            (nodes_onto (map draft_view parts.now) typed.no_nodes)) }
+            (nodes_onto (map part_view parts.now) typed.no_nodes)) }
         ensures { IfOk result (λ made. Makes self.now table.old table.new (λ ns. program.kind_view ns made)
-            (typed.CaseDo (draft_view subject.now) (nodes_onto (map draft_view parts.now) typed.no_nodes))) }
+            (typed.CaseDo (draft_view subject.now) (nodes_onto (map part_view parts.now) typed.no_nodes))) }
     {
         let subject = self.boxed(table, subject)?;
-        let parts = self.nodes(table, parts)?;
+        let parts = self.parts(table, parts)?;
         Ok(NodeKind::CaseDo(subject, parts))
     }
 
@@ -350,6 +350,38 @@ impl Numbering {
         Ok(made)
     }
 
+    /// Statements that may be missing.
+    #[cycle(nodes)]
+    fn parts(
+        &self,
+        table: &mut TableBuilder,
+        parts: &[DraftPart],
+    ) -> Result<Vec<TypedPart>, AllocError>
+        requires { NodesNumbered self.now (nodes_onto (map part_view parts.now) typed.no_nodes) }
+        ensures { IfOk result (λ made. Makes self.now table.old table.new
+            (λ ns. map (program.part_view ns) made.items) (map part_view parts.now)) }
+    {
+        let mut made = Vec::new(self.alloc);
+        for part in parts {
+            let next = self.part(table, part)?;
+            made.push(next)?;
+        }
+        Ok(made)
+    }
+
+    /// A statement that may be missing.
+    #[cycle(nodes)]
+    fn part(&self, table: &mut TableBuilder, part: &DraftPart) -> Result<TypedPart, AllocError>
+        requires { NodeNumbered self.now (part_view part.now) }
+        ensures { IfOk result (λ made. Makes self.now table.old table.new (λ ns. program.part_view ns made)
+            (part_view part.now)) }
+    {
+        match part {
+            DraftPart::Empty(place) => Ok(TypedPart::Empty(*place)),
+            DraftPart::Phrase(draft) => Ok(TypedPart::Phrase(self.boxed(table, draft)?)),
+        }
+    }
+
     /// The operators of a chain and their operands.
     #[cycle(nodes)]
     fn links(
@@ -363,7 +395,7 @@ impl Numbering {
     {
         let mut made = Vec::new(self.alloc);
         for link in links {
-            let right = self.node(table, &link.right)?;
+            let right = self.node(table, link.right)?;
             made.push(TypedLink {
                 op: link.op,
                 place: link.place,
@@ -456,16 +488,47 @@ impl Numbering {
         items: &[DraftItem],
     ) -> Result<Vec<TypedItem>, AllocError>
         requires { ItemsNumbered self.now (items_onto (map item_view items.now) typed.no_items) }
-        ensures { IfOk result (λ made. Makes self.now table.old table.new (λ ns. map (item_in ns) made.items)
+        ensures { IfOk result (λ made. Makes self.now table.old table.new (λ ns. map (program.item_view ns) made.items)
             (map item_view items.now)) }
     {
         let mut made = Vec::new(self.alloc);
         for item in items {
-            let labels = self.targets(item.labels)?;
-            let phrase = self.node(table, &item.phrase)?;
-            made.push(TypedItem { labels, phrase })?;
+            let next = self.item(table, item)?;
+            made.push(next)?;
         }
         Ok(made)
+    }
+
+    /// A phrase of a block.
+    #[cycle(nodes)]
+    fn item(&self, table: &mut TableBuilder, item: &DraftItem) -> Result<TypedItem, AllocError>
+        requires { ItemNumbered self.now (item_view item.now) }
+        ensures { IfOk result (λ made. Makes self.now table.old table.new (λ ns. program.item_view ns made)
+            (item_view item.now)) }
+    {
+        match item {
+            DraftItem::Empty(place) => Ok(TypedItem::Empty(*place)),
+            DraftItem::Plain(draft) => Ok(TypedItem::Plain(self.boxed(table, draft)?)),
+            DraftItem::Labelled(labelled) => self.labelled(table, labelled),
+        }
+    }
+
+    /// A phrase behind its labels.
+    #[cycle(nodes)]
+    fn labelled(
+        &self,
+        table: &mut TableBuilder,
+        labelled: &DraftLabelled,
+    ) -> Result<TypedItem, AllocError>
+        requires { ItemNumbered self.now (labelled_view labelled.now) }
+        ensures { IfOk result (λ made. Makes self.now table.old table.new (λ ns. program.item_view ns made)
+            (labelled_view labelled.now)) }
+    {
+        let labels = self.targets(labelled.labels)?;
+        let node = self.node(table, labelled.phrase)?;
+        let phrase = Box::new(self.alloc, node)?;
+        let item = Box::new(self.alloc, TypedLabelled { labels, phrase })?;
+        Ok(TypedItem::Labelled(item))
     }
 
     /// The bounds of arrays.

@@ -24,7 +24,7 @@ use Rattle.code_emitter.proofs.Emitting.{joined_none, targets_code}
 use Rattle.code_emitter.proofs.Joining.{codes_as, codes_is, codes_most, codes_no_more, codes_plain, codes_then, next_phrase}
 use Rattle.code_emitter.proofs.Remaining.{Remains, remains_all, remains_joined, remains_none}
 use Rattle.stack_codegen.specs.Blocks.{AreReserved, CodesItems, items_own, items_phrase}
-use Rattle.stack_codegen.specs.Codable.{CodesNode, IsCodable, IsCodableItems, node_in, sizes_known}
+use Rattle.stack_codegen.specs.Codable.{CodesNode, IsCodable, IsCodableItems, item_in, sizes_known}
 use Rattle.stack_codegen.proofs.Parts.{item_phrase_ready}
 use Rattle.stack_codegen.proofs.Ready.{ready_after}
 
@@ -77,14 +77,14 @@ items_begin e here first items fits reserved = record {
 }
 
 -- an item in front of others
-parted_items : (here : Here) (x : TypedItem) (rest : List TypedItem) (s : Scene) (k : ℕ) (ts : List ℕ) → let a : Phrase = phrase_in s (node_in x.phrase s) in left_items here (x ∷ rest) s k ts ≡ code_at s here mode.Value k a ts ▸ left_items here rest s (k + length (code_at s here mode.Value k a ts)) ts
-parted_items here x [] s k ts = sym (joined_none (code_at s here mode.Value k (phrase_in s (node_in x.phrase s)) ts))
+parted_items : (here : Here) (x : TypedItem) (rest : List TypedItem) (s : Scene) (k : ℕ) (ts : List ℕ) → let a : Phrase = phrase_in s (item_in x s) in left_items here (x ∷ rest) s k ts ≡ code_at s here mode.Value k a ts ▸ left_items here rest s (k + length (code_at s here mode.Value k a ts)) ts
+parted_items here x [] s k ts = sym (joined_none (code_at s here mode.Value k (phrase_in s (item_in x s)) ts))
 parted_items here x (y ∷ rest) s k ts =
-    let a : Phrase = phrase_in s (node_in x.phrase s) in
+    let a : Phrase = phrase_in s (item_in x s) in
     ap (λ n. code_at s here mode.Value k a ts ▸ code_items (coding_context s ts here) (place_in s here) (k + n) (items_phrase s (y ∷ rest))) (sym (length_code_at s here mode.Value k a ts))
 
 abbrev pub item_phrase : TypedItem → Scene → Phrase
-item_phrase x s = phrase_in s (node_in x.phrase s)
+item_phrase x s = phrase_in s (item_in x s)
 
 abbrev pub one_target : ℕ → Own
 one_target target = record { first = target; count = 1 }
@@ -98,7 +98,7 @@ module _ (now b : Emitter) (target : ℕ) (fits : CodeFits now.code) (rest_same 
   next_same : next b ≡ next now
   next_same = ap (λ (e : Emitter). next e) rest_same
 
-  module _ {c : Emitter} {n : ℕ} (here : Here) (x : TypedItem) (phrase : CodesNode b c here mode.Value (node_in x.phrase) n) where
+  module _ {c : Emitter} {n : ℕ} (here : Here) (x : TypedItem) (phrase : CodesNode b c here mode.Value (item_in x) n) where
     -- the phrase of an item, at its target
     pub placed_phrase : Codes (one_target target) now c (λ ts. code_at (scene now) here mode.Value (next now) (item_phrase x (scene now)) ts) (marks (item_phrase x (scene now))) n
     placed_phrase =
@@ -131,10 +131,10 @@ target_there {a} {now} {m} here first target items i x l is r =
     omega (arith, many, there)
 
 -- what is known of a phrase there
-pub item_ready_there : {a now b : Emitter} {m : ℕ} (here : Here) (first target : ℕ) (items : List TypedItem) (i : ℕ) (x : TypedItem) → i < length items → x ≡ slice_index_or items i x → IsCodableItems a items → ItemsCoded a now here first target items (drop i items) m → b ≡ with_targets now b.targets → b.targets.items ≡ slice_set now.targets.items target (Some (next now)) → IsCodable b (node_in x.phrase)
+pub item_ready_there : {a now b : Emitter} {m : ℕ} (here : Here) (first target : ℕ) (items : List TypedItem) (i : ℕ) (x : TypedItem) → i < length items → x ≡ slice_index_or items i x → IsCodableItems a items → ItemsCoded a now here first target items (drop i items) m → b ≡ with_targets now b.targets → b.targets.items ≡ slice_set now.targets.items target (Some (next now)) → IsCodable b (item_in x)
 item_ready_there {a} {now} {b} here first target items i x l is r q e put = ready_after (placed_stays now b target q.coded.stays.fits e put) (ready_after q.coded.stays (item_phrase_ready a items i x l is r))
 
-pub items_more : {a now b c : Emitter} {m n : ℕ} (here : Here) (first target : ℕ) (items : List TypedItem) (i : ℕ) (x : TypedItem) → i < length items → x ≡ slice_index_or items i x → ItemsCoded a now here first target items (drop i items) m → b ≡ with_targets now b.targets → b.targets.items ≡ slice_set now.targets.items target (Some (next now)) → CodesNode b c here mode.Value (node_in x.phrase) n → ItemsCoded a c here first (target + 1) items (drop (i + 1) items) (max m n)
+pub items_more : {a now b c : Emitter} {m n : ℕ} (here : Here) (first target : ℕ) (items : List TypedItem) (i : ℕ) (x : TypedItem) → i < length items → x ≡ slice_index_or items i x → ItemsCoded a now here first target items (drop i items) m → b ≡ with_targets now b.targets → b.targets.items ≡ slice_set now.targets.items target (Some (next now)) → CodesNode b c here mode.Value (item_in x) n → ItemsCoded a c here first (target + 1) items (drop (i + 1) items) (max m n)
 items_more {a} {now} {b} {c} {m} {n} here first target items i x l is r e put phrase =
     let rest : List TypedItem = drop (i + 1) items in
     let all : ItemsCoded a now here first target items (x ∷ rest) m = subst (λ left. ItemsCoded a now here first target items left m) (next_out items i x l is) r in
@@ -160,8 +160,8 @@ items_more {a} {now} {b} {c} {m} {n} here first target items i x l is r e put ph
         let still : AreOpen others now.targets.items = λ k h. q.open_ k (omega (arith, h), omega (arith, h)) in
         let within : target < length now.targets.items = omega (arith, many, there) in
         record {
-          coded = remains_joined {two = one_target target} {own = items_own first items} (λ s k ts. code_at s here mode.Value k (phrase_in s (node_in x.phrase s)) ts) (left_items here rest) (marks_of_items (scene a) rest) is_in one_open
-              (ap (λ s. max (marks (phrase_in s (node_in x.phrase s))) (marks_of_items (scene a) rest)) (sym same))
+          coded = remains_joined {two = one_target target} {own = items_own first items} (λ s k ts. code_at s here mode.Value k (phrase_in s (item_in x s)) ts) (left_items here rest) (marks_of_items (scene a) rest) is_in one_open
+              (ap (λ s. max (marks (phrase_in s (item_in x s))) (marks_of_items (scene a) rest)) (sym same))
               (λ ts. parted_items here x rest (scene now) (next now) ts) q.coded part;
           many = omega (arith, many);
           from = omega (arith, from);
@@ -175,7 +175,7 @@ items_more {a} {now} {b} {c} {m} {n} here first target items i x l is r e put ph
         }
 
 -- the same, from what the steps ensure
-pub items_step : {a now b c : Emitter} {m n o : ℕ} (here : Here) (first target behind : ℕ) (items : List TypedItem) (i : ℕ) (x : TypedItem) → i < length items → x ≡ slice_index_or items i x → ItemsCoded a now here first target items (drop i items) m → b ≡ with_targets now b.targets → b.targets.items ≡ slice_set now.targets.items target (Some (next now)) → CodesNode b c here mode.Value (node_in x.phrase) n → behind ≡ target + 1 → o ≡ max m n → ItemsCoded a c here first behind items (drop (i + 1) items) o
+pub items_step : {a now b c : Emitter} {m n o : ℕ} (here : Here) (first target behind : ℕ) (items : List TypedItem) (i : ℕ) (x : TypedItem) → i < length items → x ≡ slice_index_or items i x → ItemsCoded a now here first target items (drop i items) m → b ≡ with_targets now b.targets → b.targets.items ≡ slice_set now.targets.items target (Some (next now)) → CodesNode b c here mode.Value (item_in x) n → behind ≡ target + 1 → o ≡ max m n → ItemsCoded a c here first behind items (drop (i + 1) items) o
 items_step {a} {now} {b} {c} {m} {n} {o} here first target behind items i x l is r e put phrase then most =
     subst (λ k. ItemsCoded a c here first k items (drop (i + 1) items) o) (sym then)
     (subst (λ k. ItemsCoded a c here first (target + 1) items (drop (i + 1) items) k) (sym most) (items_more here first target items i x l is r e put phrase))

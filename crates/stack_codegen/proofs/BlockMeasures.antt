@@ -12,10 +12,10 @@ use Rattle.algolw_tree.specs.declared.programs.TypedItem.{TypedItem}
 use Rattle.algolw_tree.specs.declared.programs.TypedProc.{TypedProc, TypedProc', out-TypedProc}
 use Rattle.algolw_typing.specs.ProgramView.{decl_view}
 use Rattle.algolw_typing.specs.Typed as typed
-use Rattle.symbol_table.specs.Parts.{bounds_in, decls_in, items_in}
+use Rattle.symbol_table.specs.Parts.{bounds_in, decls_in, item_node, items_in}
 use Rattle.stack_codegen.specs.Blocks.{body_of}
 use Rattle.stack_codegen.proofs.NodeRows.{array_in}
-use Rattle.stack_codegen.proofs.NodeSizes.{item_smaller, node_size, nothing, size_bounds, size_decl, size_decls, size_items}
+use Rattle.stack_codegen.proofs.NodeSizes.{item_smaller, node_size, nothing, size, size_bounds, size_decl, size_decls, size_items}
 use Rattle.stack_codegen.proofs.ProcedureBodies.{body_is}
 
 pub decl_less : (decls : List TypedDecl) (i : ℕ) (d : TypedDecl) → i < length decls → d ≡ slice_index_or decls i d → 5 + size_decl (decl_view nothing d) < 5 + size_decls (decls_in nothing decls)
@@ -48,7 +48,7 @@ lower_less bounds i x l is = let h = bound_less bounds i x l is in omega (arith,
 pub upper_less : (bounds : List TypedBound) (i : ℕ) (x : TypedBound) → i < length bounds → x ≡ slice_index_or bounds i x → 2 + node_size x.upper < 4 + size_bounds (bounds_in nothing bounds)
 upper_less bounds i x l is = let h = bound_less bounds i x l is in omega (arith, h)
 
-pub item_less : (items : List TypedItem) (i : ℕ) (x : TypedItem) → i < length items → x ≡ slice_index_or items i x → node_size x.phrase < 5 + size_items (items_in nothing items)
+pub item_less : (items : List TypedItem) (i : ℕ) (x : TypedItem) → i < length items → x ≡ slice_index_or items i x → 1 + size (item_node nothing x) < 5 + size_items (items_in nothing items)
 item_less items i x l is =
-    let h = item_smaller (λ xs. size_items (items_in nothing xs)) (λ y. node_size y.phrase) (λ y xs. refl) items i x l is in
+    let h = item_smaller (λ xs. size_items (items_in nothing xs)) (λ y. size (item_node nothing y)) (λ y xs. refl) items i x l is in
     omega (arith, h)

@@ -11,6 +11,7 @@ pub mod ListParts
 pub mod Nodes
 pub mod Leaves
 pub mod NodeKinds
+pub mod RowParts
 pub mod PhraseKinds
 pub mod PhraseArms
 pub mod PhraseCalls

@@ -11,9 +11,10 @@ use Rattle.algolw_tree.specs.declared.programs.TypedDecl.{TypedDecl}
 use Rattle.algolw_tree.specs.declared.programs.TypedItem.{TypedItem}
 use Rattle.algolw_tree.specs.declared.programs.TypedLink.{TypedLink}
 use Rattle.algolw_tree.specs.declared.programs.TypedList.{TypedList}
+use Rattle.algolw_tree.specs.declared.programs.TypedPart.{TypedPart}
 use Rattle.algolw_typing.specs.Typed as typed
 use Rattle.algolw_typing.specs.ProgramView.{Numbers, kind_view, node_view, numbered}
-use Rattle.symbol_table.specs.Parts.{decls_in, items_in, links_in, lists_in, nodes_in, perhaps_in}
+use Rattle.symbol_table.specs.Parts.{decls_in, items_in, links_in, lists_in, nodes_in, parts_in, perhaps_in}
 use Rattle.stack_codegen.proofs.NodeRows.{block_in, case_do_in, case_value_in, chain_in, for_list_in, for_step_in, if_in, named_in, perhaps_of}
 use Rattle.stack_codegen.proofs.NodeSizes.{node_size, nothing, size_kind}
 
@@ -50,8 +51,8 @@ module _ (ns : Numbers) (n : Node) where
   pub case_value_kind : (b : Box Node Global) (v : Vec Node Global) (parts : List Node) → n.kind ≡ CaseValue b v → parts ≡ v.items → kind_view ns n.kind ≡ typed.CaseValue (node_view ns b.value) (nodes_in ns parts)
   case_value_kind b v parts e q = ap (kind_view ns) e ∙ case_value_in ns b v ∙ ap (λ xs. typed.CaseValue (node_view ns b.value) (nodes_in ns xs)) (sym q)
 
-  pub case_do_kind : (b : Box Node Global) (v : Vec Node Global) (parts : List Node) → n.kind ≡ CaseDo b v → parts ≡ v.items → kind_view ns n.kind ≡ typed.CaseDo (node_view ns b.value) (nodes_in ns parts)
-  case_do_kind b v parts e q = ap (kind_view ns) e ∙ case_do_in ns b v ∙ ap (λ xs. typed.CaseDo (node_view ns b.value) (nodes_in ns xs)) (sym q)
+  pub case_do_kind : (b : Box Node Global) (v : Vec TypedPart Global) (parts : List TypedPart) → n.kind ≡ CaseDo b v → parts ≡ v.items → kind_view ns n.kind ≡ typed.CaseDo (node_view ns b.value) (parts_in ns parts)
+  case_do_kind b v parts e q = ap (kind_view ns) e ∙ case_do_in ns b v ∙ ap (λ xs. typed.CaseDo (node_view ns b.value) (parts_in ns xs)) (sym q)
 
   pub for_step_kind : (m : ℕ) (a : Box Node Global) (o : Option (Box Node Global)) (b c : Box Node Global) (r : Option (Bor Node)) → n.kind ≡ ForStep m a o b c → option_map (λ (x : Bor Node). x.now) r ≡ option_map (λ (d : Box Node Global). d.value) o → kind_view ns n.kind ≡ typed.ForStep (numbered ns.names m) (node_view ns a.value) (perhaps_in ns r) (node_view ns b.value) (node_view ns c.value)
   for_step_kind m a o b c r e q = ap (kind_view ns) e ∙ for_step_in ns m a o b c ∙ ap (λ y. typed.ForStep (numbered ns.names m) (node_view ns a.value) y (node_view ns b.value) (node_view ns c.value)) (perhaps_same_as ns o r q)

@@ -8,15 +8,17 @@ use Rattle.value_ops.specs.declared.values.SimpleType.{SimpleType}
 use Rattle.algolw_tree.specs.declared.programs.Node.{Node}
 use Rattle.algolw_tree.specs.declared.programs.TypedLink.{TypedLink}
 use Rattle.algolw_tree.specs.declared.programs.TypedList.{TypedList}
-use Rattle.algolw_tree.specs.declared.programs.TypedItem.{TypedItem}
+use Rattle.algolw_tree.specs.declared.programs.TypedItem.{TypedItem, Empty, Plain', Labelled'}
+use Rattle.algolw_tree.specs.declared.programs.TypedLabelled.{TypedLabelled, TypedLabelled'}
 use Rattle.algolw_tree.specs.declared.programs.TypedActual.{TypedActual}
+use Rattle.algolw_tree.specs.declared.programs.TypedPart.{TypedPart}
 use Rattle.algolw_tree.specs.declared.programs.TypedBound.{TypedBound}
-use Rattle.algolw_tree.specs.declared.programs.NodeKind.{Named, Chain, IfThen, CaseValue, CaseDo, ForStep, ForList, Block, Row_of-Node, end_of-Node, more_of-Node, items-the_row-Node, Row_of-TypedLink, end_of-TypedLink, more_of-TypedLink, items-the_row-TypedLink, Row_of-TypedList, end_of-TypedList, more_of-TypedList, items-the_row-TypedList, Row_of-TypedItem, end_of-TypedItem, more_of-TypedItem, items-the_row-TypedItem, Row_of-TypedDecl, end_of-TypedDecl, more_of-TypedDecl, items-the_row-TypedDecl}
+use Rattle.algolw_tree.specs.declared.programs.NodeKind.{Named, Chain, IfThen, CaseValue, CaseDo, ForStep, ForList, Block, Row_of-Node, end_of-Node, more_of-Node, items-the_row-Node, Row_of-TypedLink, end_of-TypedLink, more_of-TypedLink, items-the_row-TypedLink, Row_of-TypedList, end_of-TypedList, more_of-TypedList, items-the_row-TypedList, Row_of-TypedPart, end_of-TypedPart, more_of-TypedPart, items-the_row-TypedPart, Row_of-TypedItem, end_of-TypedItem, more_of-TypedItem, items-the_row-TypedItem, Row_of-TypedDecl, end_of-TypedDecl, more_of-TypedDecl, items-the_row-TypedDecl}
 use Rattle.algolw_tree.specs.declared.programs.TypedListKind.{Actuals, Row_of-TypedActual, end_of-TypedActual, more_of-TypedActual, items-the_row-TypedActual}
 use Rattle.algolw_tree.specs.declared.programs.TypedDecl.{TypedDecl, Array, Row_of-TypedBound, end_of-TypedBound, more_of-TypedBound, items-the_row-TypedBound}
-use Rattle.algolw_tree.specs.declared.programs.NodeKind.TheBlock.{hidden-the_row-TypedList-0, items_hidden-the_row-TypedList-0, hidden-the_row-TypedLink-1, items_hidden-the_row-TypedLink-1, hidden-the_row-Node-2, items_hidden-the_row-Node-2, hidden-the_row-TypedDecl-3, items_hidden-the_row-TypedDecl-3, hidden-the_row-TypedItem-4, items_hidden-the_row-TypedItem-4, hidden-the_row-TypedBound-5, items_hidden-the_row-TypedBound-5, hidden-the_row-TypedActual-6, items_hidden-the_row-TypedActual-6}
+use Rattle.algolw_tree.specs.declared.programs.NodeKind.TheBlock.{hidden-the_row-TypedList-0, items_hidden-the_row-TypedList-0, hidden-the_row-TypedLink-1, items_hidden-the_row-TypedLink-1, hidden-the_row-Node-2, items_hidden-the_row-Node-2, hidden-the_row-TypedPart-3, items_hidden-the_row-TypedPart-3, hidden-the_row-TypedDecl-4, items_hidden-the_row-TypedDecl-4, hidden-the_row-TypedItem-5, items_hidden-the_row-TypedItem-5, hidden-the_row-TypedBound-6, items_hidden-the_row-TypedBound-6, hidden-the_row-TypedActual-7, items_hidden-the_row-TypedActual-7}
 use Rattle.algolw_typing.specs.Typed as typed
-use Rattle.algolw_typing.specs.ProgramView.{Numbers, numbered, node_view, at_view, kind_view, nodes_view, links_view, lists_view, listing_view, actuals_view, actual_view, items_view, decls_view, decl_view, bounds_view, targets_view, type_view}
+use Rattle.algolw_typing.specs.ProgramView.{Numbers, numbered, node_view, at_view, kind_view, nodes_view, links_view, lists_view, listing_view, actuals_view, actual_view, part_view, parts_view, item_view, items_view, labelled_view, decls_view, decl_view, bounds_view, targets_view, type_view}
 use Rattle.symbol_table.specs.Parts as parts
 
 -- what is in a box, where there is one
@@ -41,9 +43,21 @@ module _ (ns : Numbers) where
   actuals_row n end_of-TypedActual = refl
   actuals_row n (more_of-TypedActual actual r) = ap (typed.actual_and (actual_view ns actual)) (actuals_row _ r)
 
+  labelled_is : (l : TypedLabelled) → labelled_view ns l ≡ typed.Labelled (targets_view ns (parts.labels_before l)) (parts.node_behind ns l)
+  labelled_is (TypedLabelled' labels q p f k g s) = refl
+
+  item_is : (i : TypedItem) → item_view ns i ≡ typed.Labelled (targets_view ns (parts.item_labels i)) (parts.item_node ns i)
+  item_is (Empty place) = refl
+  item_is (Plain' q p f k g s) = refl
+  item_is (Labelled' q l) = labelled_is l
+
+  parts_row : (n : _) (r : Row_of-TypedPart n) → parts_view ns r ≡ parts.parts_in ns (items-the_row-TypedPart n r)
+  parts_row n end_of-TypedPart = refl
+  parts_row n (more_of-TypedPart part r) = ap (typed.node_and (part_view ns part)) (parts_row _ r)
+
   items_row : (n : _) (r : Row_of-TypedItem n) → items_view ns r ≡ parts.items_in ns (items-the_row-TypedItem n r)
   items_row n end_of-TypedItem = refl
-  items_row n (more_of-TypedItem labels p f k g s r) = ap (typed.item_and (typed.Labelled (targets_view ns labels.items) (at_view ns p f g s (kind_view ns k)))) (items_row _ r)
+  items_row n (more_of-TypedItem item r) = ap (λ i. typed.item_and i (items_view ns r)) (item_is item) ∙ ap (typed.item_and (typed.Labelled (targets_view ns (parts.item_labels item)) (parts.item_node ns item))) (items_row _ r)
 
   decls_row : (n : _) (r : Row_of-TypedDecl n) → decls_view ns r ≡ parts.decls_in ns (items-the_row-TypedDecl n r)
   decls_row n end_of-TypedDecl = refl
@@ -56,23 +70,26 @@ module _ (ns : Numbers) where
   vec_nodes : (v : Vec Node Global) → nodes_view ns (hidden-the_row-Node-2 v) ≡ parts.nodes_in ns v.items
   vec_nodes v = nodes_row _ (hidden-the_row-Node-2 v) ∙ ap (λ xs. parts.nodes_in ns xs) (items_hidden-the_row-Node-2 v)
 
+  vec_parts : (v : Vec TypedPart Global) → parts_view ns (hidden-the_row-TypedPart-3 v) ≡ parts.parts_in ns v.items
+  vec_parts v = parts_row _ (hidden-the_row-TypedPart-3 v) ∙ ap (λ xs. parts.parts_in ns xs) (items_hidden-the_row-TypedPart-3 v)
+
   vec_links : (v : Vec TypedLink Global) → links_view ns (hidden-the_row-TypedLink-1 v) ≡ parts.links_in ns v.items
   vec_links v = links_row _ (hidden-the_row-TypedLink-1 v) ∙ ap (λ xs. parts.links_in ns xs) (items_hidden-the_row-TypedLink-1 v)
 
   vec_lists : (v : Vec TypedList Global) → lists_view ns (hidden-the_row-TypedList-0 v) ≡ parts.lists_in ns v.items
   vec_lists v = lists_row _ (hidden-the_row-TypedList-0 v) ∙ ap (λ xs. parts.lists_in ns xs) (items_hidden-the_row-TypedList-0 v)
 
-  vec_actuals : (v : Vec TypedActual Global) → actuals_view ns (hidden-the_row-TypedActual-6 v) ≡ parts.actuals_in ns v.items
-  vec_actuals v = actuals_row _ (hidden-the_row-TypedActual-6 v) ∙ ap (λ xs. parts.actuals_in ns xs) (items_hidden-the_row-TypedActual-6 v)
+  vec_actuals : (v : Vec TypedActual Global) → actuals_view ns (hidden-the_row-TypedActual-7 v) ≡ parts.actuals_in ns v.items
+  vec_actuals v = actuals_row _ (hidden-the_row-TypedActual-7 v) ∙ ap (λ xs. parts.actuals_in ns xs) (items_hidden-the_row-TypedActual-7 v)
 
-  vec_items : (v : Vec TypedItem Global) → items_view ns (hidden-the_row-TypedItem-4 v) ≡ parts.items_in ns v.items
-  vec_items v = items_row _ (hidden-the_row-TypedItem-4 v) ∙ ap (λ xs. parts.items_in ns xs) (items_hidden-the_row-TypedItem-4 v)
+  vec_items : (v : Vec TypedItem Global) → items_view ns (hidden-the_row-TypedItem-5 v) ≡ parts.items_in ns v.items
+  vec_items v = items_row _ (hidden-the_row-TypedItem-5 v) ∙ ap (λ xs. parts.items_in ns xs) (items_hidden-the_row-TypedItem-5 v)
 
-  vec_decls : (v : Vec TypedDecl Global) → decls_view ns (hidden-the_row-TypedDecl-3 v) ≡ parts.decls_in ns v.items
-  vec_decls v = decls_row _ (hidden-the_row-TypedDecl-3 v) ∙ ap (λ xs. parts.decls_in ns xs) (items_hidden-the_row-TypedDecl-3 v)
+  vec_decls : (v : Vec TypedDecl Global) → decls_view ns (hidden-the_row-TypedDecl-4 v) ≡ parts.decls_in ns v.items
+  vec_decls v = decls_row _ (hidden-the_row-TypedDecl-4 v) ∙ ap (λ xs. parts.decls_in ns xs) (items_hidden-the_row-TypedDecl-4 v)
 
-  vec_bounds : (v : Vec TypedBound Global) → bounds_view ns (hidden-the_row-TypedBound-5 v) ≡ parts.bounds_in ns v.items
-  vec_bounds v = bounds_row _ (hidden-the_row-TypedBound-5 v) ∙ ap (λ xs. parts.bounds_in ns xs) (items_hidden-the_row-TypedBound-5 v)
+  vec_bounds : (v : Vec TypedBound Global) → bounds_view ns (hidden-the_row-TypedBound-6 v) ≡ parts.bounds_in ns v.items
+  vec_bounds v = bounds_row _ (hidden-the_row-TypedBound-6 v) ∙ ap (λ xs. parts.bounds_in ns xs) (items_hidden-the_row-TypedBound-6 v)
 
   pub named_in : (m : ℕ) (v : Vec TypedList Global) → kind_view ns (Named m v) ≡ typed.Named (numbered ns.names m) (parts.lists_in ns v.items)
   named_in m v = ap (typed.Named (numbered ns.names m)) (vec_lists v)
@@ -87,8 +104,8 @@ module _ (ns : Numbers) where
   pub case_value_in : (b : Box Node Global) (v : Vec Node Global) → kind_view ns (CaseValue b v) ≡ typed.CaseValue (node_view ns b.value) (parts.nodes_in ns v.items)
   case_value_in b v = ap (typed.CaseValue (node_view ns b.value)) (vec_nodes v)
 
-  pub case_do_in : (b : Box Node Global) (v : Vec Node Global) → kind_view ns (CaseDo b v) ≡ typed.CaseDo (node_view ns b.value) (parts.nodes_in ns v.items)
-  case_do_in b v = ap (typed.CaseDo (node_view ns b.value)) (vec_nodes v)
+  pub case_do_in : (b : Box Node Global) (v : Vec TypedPart Global) → kind_view ns (CaseDo b v) ≡ typed.CaseDo (node_view ns b.value) (parts.parts_in ns v.items)
+  case_do_in b v = ap (typed.CaseDo (node_view ns b.value)) (vec_parts v)
 
   pub for_step_in : (m : ℕ) (a : Box Node Global) (o : Option (Box Node Global)) (b c : Box Node Global) → kind_view ns (ForStep m a o b c) ≡ typed.ForStep (numbered ns.names m) (node_view ns a.value) (perhaps_of ns o) (node_view ns b.value) (node_view ns c.value)
   for_step_in m a None b c = refl
@@ -98,7 +115,7 @@ module _ (ns : Numbers) where
   for_list_in m v b = ap (λ xs. typed.ForList (numbered ns.names m) xs (node_view ns b.value)) (vec_nodes v)
 
   pub block_in : (ds : Vec TypedDecl Global) (is : Vec TypedItem Global) → kind_view ns (Block ds is) ≡ typed.Block (parts.decls_in ns ds.items) (parts.items_in ns is.items)
-  block_in ds is = ap (λ zs. typed.Block zs (items_view ns (hidden-the_row-TypedItem-4 is))) (vec_decls ds) ∙ ap (typed.Block (parts.decls_in ns ds.items)) (vec_items is)
+  block_in ds is = ap (λ zs. typed.Block zs (items_view ns (hidden-the_row-TypedItem-5 is))) (vec_decls ds) ∙ ap (typed.Block (parts.decls_in ns ds.items)) (vec_items is)
 
   pub actuals_in : (p : Place) (v : Vec TypedActual Global) → listing_view ns p (Actuals v) ≡ typed.OfActuals p (parts.actuals_in ns v.items)
   actuals_in p v = ap (typed.OfActuals p) (vec_actuals v)

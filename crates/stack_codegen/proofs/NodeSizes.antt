@@ -2,9 +2,10 @@
 use Rattle.std.proofs.Common.{◌≡◌, ℕ, zero, suc, ◌+◌, ◌<◌, ◌≤◌, List, [], ◌∷◌, length, Option, Some, None, get_or, refl, sym, subst, arith}
 use Rattle.std.specs.Borrow.{Bor}
 use Rattle.algolw_tree.specs.declared.programs.Node as held
+use Rattle.algolw_tree.specs.declared.programs.TypedPart.{TypedPart}
 use Rattle.algolw_typing.specs.Typed.{Node, At, Kind, Named, Negated, Abs, Signed, Chain, Relation, IsClass, Assign, IfThen, CaseValue, CaseDo, ForStep, ForList, WhileDo, Assert, Block, Perhaps, Missing, There, Nodes, no_nodes, node_and, Links, no_links, link_and, Linked, Lists, no_lists, list_and, Listing, OfActuals, OfPart, Actuals, no_actuals, actual_and, Actual, Star, Given, Items, no_items, item_and, Labelled, Bounds, no_bounds, bound_and, Between, Decls, no_decls, decl_and, Decl, Array, Proc}
-use Rattle.algolw_typing.specs.ProgramView.{Numbers, node_view}
-use Rattle.symbol_table.specs.Parts.{nodes_in}
+use Rattle.algolw_typing.specs.ProgramView.{Numbers, node_view, part_view}
+use Rattle.symbol_table.specs.Parts.{nodes_in, parts_in}
 
 abbrev mutual
   pub size : Node → ℕ
@@ -96,3 +97,6 @@ item_smaller S s step xs i x h is = subst (λ y. 8 + s y ≤ S xs) (sym is) (par
 
 pub node_less : (nodes : List held.Node) (i : ℕ) (a : held.Node) → i < length nodes → a ≡ get_or nodes i a → 8 + node_size a ≤ size_nodes (nodes_in nothing nodes)
 node_less nodes i a l is = item_smaller (λ xs. size_nodes (nodes_in nothing xs)) node_size (λ x xs. refl) nodes i a l is
+
+pub part_less : (parts : List TypedPart) (i : ℕ) (p : TypedPart) → i < length parts → p ≡ get_or parts i p → 8 + size (part_view nothing p) ≤ size_nodes (parts_in nothing parts)
+part_less parts i p l is = item_smaller (λ xs. size_nodes (parts_in nothing xs)) (λ x. size (part_view nothing x)) (λ x xs. refl) parts i p l is

@@ -10,23 +10,24 @@ use Rattle.algolw_tree.specs.declared.programs.TypedActual.{TypedActual, Star, P
 use Rattle.algolw_tree.specs.declared.programs.TypedBound.{TypedBound}
 use Rattle.algolw_tree.specs.declared.programs.TypedItem.{TypedItem}
 use Rattle.algolw_tree.specs.declared.programs.TypedLink.{TypedLink}
-use Rattle.algolw_typing.specs.Known.{KnowsLinks}
+use Rattle.algolw_tree.specs.declared.programs.TypedPart.{TypedPart}
+use Rattle.algolw_typing.specs.Known.{KnowsLinks, KnowsNodes}
 use Rattle.algolw_typing.specs.Typed as typed
 use Rattle.program_meaning.specs.Phrases.{Phrase}
 use Rattle.program_meaning.specs.Translating as translating
 use Rattle.program_meaning.specs.Translating.{chain_of, linked, phrase_of}
 use Rattle.program_soundness.specs.Tables.{actuals_infos, bounds_infos, infos, items_infos, links_infos, nodes_infos}
 use Rattle.phrase_code.specs.Sizes.{Known}
-use Rattle.compilable_programs.specs.Begun.{LinksBegun}
+use Rattle.compilable_programs.specs.Begun.{AllBegun, LinksBegun}
 use Rattle.compilable_programs.specs.Suits.{Suits}
 use Rattle.symbol_table.specs.Contexts.{Scene, numbers_in, phrase_context}
-use Rattle.symbol_table.specs.Parts.{actuals_in, bounds_in, items_in, links_in, nodes_in}
+use Rattle.symbol_table.specs.Parts.{actuals_in, bounds_in, items_in, links_in, nodes_in, parts_in}
 use Rattle.symbol_table.proofs.Declaring.{next_out}
 use Rattle.symbol_table.proofs.Fresh.{fresh_left, fresh_right}
 use Rattle.code_emitter.specs.declared.emitter.Emitter.{Emitter}
 use Rattle.code_emitter.specs.Parts.{EmitterFits, scene}
 use Rattle.stack_codegen.specs.Calls.{PassedFit}
-use Rattle.stack_codegen.specs.Codable.{IsCodable, IsCodableActual, IsCodableActuals, IsCodableBounds, IsCodableItems, IsCodableNodes, IsCodablePart, NodeSuits, PassedSuits, node_in, sizes_known}
+use Rattle.stack_codegen.specs.Codable.{IsCodable, IsCodableActual, IsCodableActuals, IsCodableBounds, IsCodableItems, IsCodableNodes, IsCodablePart, NodeSuits, NodesSuit, PassedSuits, item_in, node_in, part_in, sizes_known}
 use Rattle.stack_codegen.specs.Listed.{ListedSuits, UseSuits, first_phrase}
 use Rattle.stack_codegen.specs.declared.lists.ListUse.{ListUse}
 use Rattle.stack_codegen.specs.declared.lists.ListUse.TheVariants as list
@@ -83,6 +84,20 @@ nodes_head e a rest r = record { fits = r.fits; fresh = fresh_left (scene e) (in
 pub node_ready : (e : Emitter) (nodes : List Node) (i : ℕ) (a : Node) → i < length nodes → a ≡ slice_index_or nodes i a → IsCodableNodes e nodes → IsCodable e (node_in a)
 node_ready e nodes i a = item_ready (IsCodableNodes e) (λ x. IsCodable e (node_in x)) (nodes_tail e) (nodes_head e) nodes i a
 
+-- ---- statements that may be missing
+
+abbrev IsCodableParts : Emitter → List TypedPart → Type 0
+IsCodableParts e parts = IsCodablePart e (λ s. parts_in (numbers_in s) parts) nodes_infos KnowsNodes AllBegun NodesSuit
+
+parts_tail : (e : Emitter) (p : TypedPart) (rest : List TypedPart) → IsCodableParts e (p ∷ rest) → IsCodableParts e rest
+parts_tail e p rest r = record { fits = r.fits; fresh = fresh_right (scene e) (infos (part_in p (scene e))) (nodes_infos (parts_in (numbers_in (scene e)) rest)) r.fresh; knows = r.knows.1; begun = r.begun.1; suits = r.suits.1 }
+
+parts_head : (e : Emitter) (p : TypedPart) (rest : List TypedPart) → IsCodableParts e (p ∷ rest) → IsCodable e (part_in p)
+parts_head e p rest r = record { fits = r.fits; fresh = fresh_left (scene e) (infos (part_in p (scene e))) (nodes_infos (parts_in (numbers_in (scene e)) rest)) r.fresh; knows = r.knows.0; begun = r.begun.0; suits = r.suits.0 }
+
+pub part_ready : (e : Emitter) (parts : List TypedPart) (i : ℕ) (p : TypedPart) → i < length parts → p ≡ slice_index_or parts i p → IsCodableParts e parts → IsCodable e (part_in p)
+part_ready e parts i p = item_ready (IsCodableParts e) (λ x. IsCodable e (part_in x)) (parts_tail e) (parts_head e) parts i p
+
 -- ---- bounds
 
 abbrev pub BothReady : Emitter → TypedBound → Type 0
@@ -108,13 +123,13 @@ bound_ready e bounds i b = item_ready (IsCodableBounds e) (BothReady e) (bounds_
 -- ---- items
 
 items_tail : (e : Emitter) (i : TypedItem) (rest : List TypedItem) → IsCodableItems e (i ∷ rest) → IsCodableItems e rest
-items_tail e i rest r = record { fits = r.fits; fresh = fresh_right (scene e) (infos (node_in i.phrase (scene e))) (items_infos (items_in (numbers_in (scene e)) rest)) r.fresh; knows = r.knows.2; begun = r.begun.1; suits = r.suits.1 }
+items_tail e i rest r = record { fits = r.fits; fresh = fresh_right (scene e) (infos (item_in i (scene e))) (items_infos (items_in (numbers_in (scene e)) rest)) r.fresh; knows = r.knows.2; begun = r.begun.1; suits = r.suits.1 }
 
-items_head : (e : Emitter) (i : TypedItem) (rest : List TypedItem) → IsCodableItems e (i ∷ rest) → IsCodable e (node_in i.phrase)
-items_head e i rest r = record { fits = r.fits; fresh = fresh_left (scene e) (infos (node_in i.phrase (scene e))) (items_infos (items_in (numbers_in (scene e)) rest)) r.fresh; knows = r.knows.1; begun = r.begun.0; suits = r.suits.0 }
+items_head : (e : Emitter) (i : TypedItem) (rest : List TypedItem) → IsCodableItems e (i ∷ rest) → IsCodable e (item_in i)
+items_head e i rest r = record { fits = r.fits; fresh = fresh_left (scene e) (infos (item_in i (scene e))) (items_infos (items_in (numbers_in (scene e)) rest)) r.fresh; knows = r.knows.1; begun = r.begun.0; suits = r.suits.0 }
 
-pub item_phrase_ready : (e : Emitter) (items : List TypedItem) (n : ℕ) (i : TypedItem) → n < length items → i ≡ slice_index_or items n i → IsCodableItems e items → IsCodable e (node_in i.phrase)
-item_phrase_ready e items n i = item_ready (IsCodableItems e) (λ x. IsCodable e (node_in x.phrase)) (items_tail e) (items_head e) items n i
+pub item_phrase_ready : (e : Emitter) (items : List TypedItem) (n : ℕ) (i : TypedItem) → n < length items → i ≡ slice_index_or items n i → IsCodableItems e items → IsCodable e (item_in i)
+item_phrase_ready e items n i = item_ready (IsCodableItems e) (λ x. IsCodable e (item_in x)) (items_tail e) (items_head e) items n i
 
 -- ---- what is in a list behind a name
 

@@ -13,6 +13,7 @@ use Rattle.algolw_tree.specs.declared.programs.TypedDecl.{TypedDecl}
 use Rattle.algolw_tree.specs.declared.programs.TypedItem.{TypedItem}
 use Rattle.algolw_tree.specs.declared.programs.TypedLink.{TypedLink}
 use Rattle.algolw_tree.specs.declared.programs.TypedList.{TypedList}
+use Rattle.algolw_tree.specs.declared.programs.TypedPart.{TypedPart}
 use Rattle.algolw_typing.specs.Typed as typed
 use Rattle.algolw_typing.specs.ProgramView.{Numbers, kind_view, numbered}
 use Rattle.stack_code.specs.declared.instructions.Instr.TheVariants as held
@@ -28,7 +29,9 @@ use Rattle.symbol_table.specs.Symbols.{class_at}
 use Rattle.code_emitter.specs.declared.emitter.Emitter.{Emitter}
 use Rattle.code_emitter.specs.Appending.{with_goto}
 use Rattle.code_emitter.specs.Parts.{phrase_in, scene}
-use Rattle.stack_codegen.specs.Codable.{CodesNode, IsCodable, node_in, with_kind}
+use Rattle.stack_codegen.specs.declared.loops.Choices.{Choices}
+use Rattle.stack_codegen.specs.declared.loops.Choices.TheVariants as choice
+use Rattle.stack_codegen.specs.Codable.{CodesNode, IsCodable, choices_in, node_in, with_kind}
 use Rattle.stack_codegen.specs.Operations.{CodesBefore, CodesPair, CodesStatement, class_test, negation}
 use Rattle.stack_codegen.proofs.NodeKinds.{block_kind, case_do_kind, case_value_kind, chain_kind, for_list_kind, for_step_kind, if_kind, named_kind}
 use Rattle.stack_codegen.proofs.Nodes.{abs_ready, negated_ready, relation_ready, signed_ready}
@@ -61,10 +64,10 @@ abbrev pub if_of : (c a : Node) → Option (Bor Node) → Scene → typed.Kind
 if_of c a b s = typed.IfThen (node_in c s) (node_in a s) (perhaps_in (numbers_in s) b)
 
 abbrev pub case_value_of : Node → List Node → Scene → typed.Kind
-case_value_of c parts s = typed.CaseValue (node_in c s) (nodes_in (numbers_in s) parts)
+case_value_of c values s = typed.CaseValue (node_in c s) (nodes_in (numbers_in s) values)
 
-abbrev pub case_do_of : Node → List Node → Scene → typed.Kind
-case_do_of c parts s = typed.CaseDo (node_in c s) (nodes_in (numbers_in s) parts)
+abbrev pub case_of : Node → Choices → Scene → typed.Kind
+case_of c choices s = typed.CaseDo (node_in c s) (choices_in (numbers_in s) choices)
 
 abbrev pub for_step_of : ℕ → Node → Option (Bor Node) → (c body : Node) → Scene → typed.Kind
 for_step_of x a b c body s = typed.ForStep (numbered (numbers_in s).names x) (node_in a s) (perhaps_in (numbers_in s) b) (node_in c s) (node_in body s)
@@ -117,13 +120,13 @@ module _ (e : Emitter) (n : Node) (r : IsCodable e (node_in n)) where
   pub if_known : (c a : Box Node Global) (o : Option (Box Node Global)) (b : Option (Bor Node)) → n.kind ≡ kinds.IfThen c a o → option_map (λ (x : Bor Node). x.now) b ≡ option_map (λ (d : Box Node Global). d.value) o → IsCodable e (with_kind n (if_of c.value a.value b))
   if_known c a o b q p = kind_ready e n (if_of c.value a.value b) (if_kind ns n c a o b q p) r
 
-  pub case_value_known : (c : Box Node Global) (v : Vec Node Global) (parts : List Node) → n.kind ≡ kinds.CaseValue c v → parts ≡ v.items → IsCodable e (with_kind n (case_do_of c.value parts))
-  case_value_known c v parts q p =
-      let k : IsCodable e (with_kind n (case_value_of c.value parts)) = kind_ready e n (case_value_of c.value parts) (case_value_kind ns n c v parts q p) r in
+  pub case_value_known : (c : Box Node Global) (v : Vec Node Global) (values : Bor (List Node)) → n.kind ≡ kinds.CaseValue c v → values.now ≡ v.items → IsCodable e (with_kind n (case_of c.value (choice.Values values)))
+  case_value_known c v values q p =
+      let k : IsCodable e (with_kind n (case_value_of c.value values.now)) = kind_ready e n (case_value_of c.value values.now) (case_value_kind ns n c v values.now q p) r in
       record { fits = k.fits; fresh = k.fresh; knows = k.knows; begun = k.begun; suits = k.suits }
 
-  pub case_do_known : (c : Box Node Global) (v : Vec Node Global) (parts : List Node) → n.kind ≡ kinds.CaseDo c v → parts ≡ v.items → IsCodable e (with_kind n (case_do_of c.value parts))
-  case_do_known c v parts q p = kind_ready e n (case_do_of c.value parts) (case_do_kind ns n c v parts q p) r
+  pub case_do_known : (c : Box Node Global) (v : Vec TypedPart Global) (parts : Bor (List TypedPart)) → n.kind ≡ kinds.CaseDo c v → parts.now ≡ v.items → IsCodable e (with_kind n (case_of c.value (choice.Statements parts)))
+  case_do_known c v parts q p = kind_ready e n (case_of c.value (choice.Statements parts)) (case_do_kind ns n c v parts.now q p) r
 
   pub for_step_known : (x : ℕ) (a : Box Node Global) (o : Option (Box Node Global)) (c body : Box Node Global) (b : Option (Bor Node)) → n.kind ≡ kinds.ForStep x a o c body → option_map (λ (y : Bor Node). y.now) b ≡ option_map (λ (d : Box Node Global). d.value) o → IsCodable e (with_kind n (for_step_of x a.value b c.value body.value))
   for_step_known x a o c body b q p = kind_ready e n (for_step_of x a.value b c.value body.value) (for_step_kind ns n x a o c body b q p) r
@@ -176,11 +179,11 @@ module _ {e b : Emitter} {m : ℕ} (here : Here) (wanted : Mode) (n : Node) wher
   pub if_coded : (c x : Box Node Global) (o : Option (Box Node Global)) (y : Option (Bor Node)) → n.kind ≡ kinds.IfThen c x o → option_map (λ (z : Bor Node). z.now) y ≡ option_map (λ (d : Box Node Global). d.value) o → CodesNode e b here mode.Value (with_kind n (if_of c.value x.value y)) m → CodesNode e b here wanted (node_in n) m
   if_coded c x o y q p part = kind_done here wanted n (if_of c.value x.value y) (if_kind (numbers_in (scene e)) n c x o y q p) (any_wanted here mode.Value wanted (phrase_in (scene e) (with_kind n (if_of c.value x.value y) (scene e))) (λ ts. refl) part)
 
-  pub case_value_coded : (c : Box Node Global) (v : Vec Node Global) (parts : List Node) → n.kind ≡ kinds.CaseValue c v → parts ≡ v.items → CodesNode e b here mode.Value (with_kind n (case_do_of c.value parts)) m → CodesNode e b here wanted (node_in n) m
-  case_value_coded c v parts q p part = kind_done here wanted n (case_value_of c.value parts) (case_value_kind (numbers_in (scene e)) n c v parts q p) (any_wanted here mode.Value wanted (phrase_in (scene e) (with_kind n (case_do_of c.value parts) (scene e))) (λ ts. refl) part)
+  pub case_value_coded : (c : Box Node Global) (v : Vec Node Global) (values : Bor (List Node)) → n.kind ≡ kinds.CaseValue c v → values.now ≡ v.items → CodesNode e b here mode.Value (with_kind n (case_of c.value (choice.Values values))) m → CodesNode e b here wanted (node_in n) m
+  case_value_coded c v values q p part = kind_done here wanted n (case_value_of c.value values.now) (case_value_kind (numbers_in (scene e)) n c v values.now q p) (any_wanted here mode.Value wanted (phrase_in (scene e) (with_kind n (case_of c.value (choice.Values values)) (scene e))) (λ ts. refl) part)
 
-  pub case_do_coded : (c : Box Node Global) (v : Vec Node Global) (parts : List Node) → n.kind ≡ kinds.CaseDo c v → parts ≡ v.items → CodesNode e b here mode.Value (with_kind n (case_do_of c.value parts)) m → CodesNode e b here wanted (node_in n) m
-  case_do_coded c v parts q p part = kind_done here wanted n (case_do_of c.value parts) (case_do_kind (numbers_in (scene e)) n c v parts q p) (any_wanted here mode.Value wanted (phrase_in (scene e) (with_kind n (case_do_of c.value parts) (scene e))) (λ ts. refl) part)
+  pub case_do_coded : (c : Box Node Global) (v : Vec TypedPart Global) (parts : Bor (List TypedPart)) → n.kind ≡ kinds.CaseDo c v → parts.now ≡ v.items → CodesNode e b here mode.Value (with_kind n (case_of c.value (choice.Statements parts))) m → CodesNode e b here wanted (node_in n) m
+  case_do_coded c v parts q p part = kind_done here wanted n (case_of c.value (choice.Statements parts)) (case_do_kind (numbers_in (scene e)) n c v parts.now q p) (any_wanted here mode.Value wanted (phrase_in (scene e) (with_kind n (case_of c.value (choice.Statements parts)) (scene e))) (λ ts. refl) part)
 
   pub for_step_coded : (x : ℕ) (a : Box Node Global) (o : Option (Box Node Global)) (c body : Box Node Global) (y : Option (Bor Node)) → n.kind ≡ kinds.ForStep x a o c body → option_map (λ (z : Bor Node). z.now) y ≡ option_map (λ (d : Box Node Global). d.value) o → CodesNode e b here mode.Value (with_kind n (for_step_of x a.value y c.value body.value)) m → CodesNode e b here wanted (node_in n) m
   for_step_coded x a o c body y q p part = kind_done here wanted n (for_step_of x a.value y c.value body.value) (for_step_kind (numbers_in (scene e)) n x a o c body y q p) (any_wanted here mode.Value wanted (phrase_in (scene e) (with_kind n (for_step_of x a.value y c.value body.value) (scene e))) (λ ts. refl) part)

@@ -1,5 +1,5 @@
 -- The cases of a phrase, where what is lent of its parts is what stands in them.
-use Rattle.std.proofs.Common.{◌≡◌, ◌⊎◌, ℕ, ◌+◌, Bool, true, false, List, Option, Some, None, inl, inr, refl, sym, ap, ◌∙◌, subst}
+use Rattle.std.proofs.Common.{◌≡◌, ℕ, ◌+◌, Bool, true, false, List, Option, Some, None, refl, sym, ap, ◌∙◌, subst}
 use Rattle.std.specs.Prelude.{IsSomeAnd, MatchOption}
 use Rattle.std.specs.Option.{option_map}
 use Rattle.std.specs.Borrow.{Bor}
@@ -14,6 +14,7 @@ use Rattle.algolw_tree.specs.declared.programs.TypedDecl.{TypedDecl}
 use Rattle.algolw_tree.specs.declared.programs.TypedItem.{TypedItem}
 use Rattle.algolw_tree.specs.declared.programs.TypedLink.{TypedLink}
 use Rattle.algolw_tree.specs.declared.programs.TypedList.{TypedList}
+use Rattle.algolw_tree.specs.declared.programs.TypedPart.{TypedPart}
 use Rattle.algolw_typing.specs.Typed as typed
 use Rattle.algolw_typing.specs.ProgramView.{kind_view, node_view, numbered}
 use Rattle.stack_code.specs.CodeView.{InstrFits}
@@ -26,16 +27,17 @@ use Rattle.stack_code.specs.declared.instructions.UnaryOp.TheVariants as unary
 use Rattle.symbol_table.specs.declared.here.Here.{Here}
 use Rattle.symbol_table.specs.Contexts.{numbers_in}
 use Rattle.symbol_table.specs.Heres.{in_statement}
-use Rattle.symbol_table.specs.Parts.{decls_in, items_in, links_in, lists_in, nodes_in, perhaps_in}
+use Rattle.symbol_table.specs.Parts.{decls_in, items_in, links_in, lists_in, nodes_in, parts_in, perhaps_in}
 use Rattle.symbol_table.specs.Symbols.{class_at}
 use Rattle.code_emitter.specs.declared.emitter.Emitter.{Emitter}
 use Rattle.code_emitter.specs.Parts.{phrase_in, scene}
+use Rattle.stack_codegen.specs.declared.loops.Choices.TheVariants as choice
 use Rattle.stack_codegen.specs.Codable.{CodesNode, IsCodable, node_in, with_kind}
 use Rattle.stack_codegen.specs.Operations.{CodesBefore, CodesPair, CodesStatement, class_test, negation}
 use Rattle.stack_codegen.proofs.NodeKinds.{block_kind, case_do_kind, case_value_kind, chain_kind, for_list_kind, for_step_kind, if_kind, kind_sized, named_kind}
 use Rattle.stack_codegen.proofs.NodeSizes.{node_size, nothing, perhaps_size, size_decls, size_items, size_links, size_lists, size_nodes, size_perhaps}
 use Rattle.stack_codegen.proofs.Nodes.{assert_ready, is_class_ready}
-use Rattle.stack_codegen.proofs.PhraseArms.{abs_coded, abs_known, assert_coded, assert_known, assign_coded, assign_known, assign_of, case_do_coded, case_do_known, case_do_of, case_value_coded, case_value_known, chain_coded, chain_known, chain_of, for_list_coded, for_list_known, for_list_of, for_step_coded, for_step_known, for_step_of, if_coded, if_known, if_of, is_class_coded, is_class_known, minus_coded, negated_coded, negated_known, plus_coded, relation_coded, relation_known, signed_known, while_coded, while_known, while_of}
+use Rattle.stack_codegen.proofs.PhraseArms.{abs_coded, abs_known, assert_coded, assert_known, assign_coded, assign_known, assign_of, case_do_coded, case_do_known, case_of, case_value_coded, case_value_known, chain_coded, chain_known, chain_of, for_list_coded, for_list_known, for_list_of, for_step_coded, for_step_known, for_step_of, if_coded, if_known, if_of, is_class_coded, is_class_known, minus_coded, negated_coded, negated_known, plus_coded, relation_coded, relation_known, signed_known, while_coded, while_known, while_of}
 use Rattle.stack_codegen.proofs.PhraseKinds.{class_test_fits}
 
 -- ---- what is lent
@@ -88,15 +90,11 @@ module _ (n : Node) where
   pub if_sized : (c a : Box Node Global) (o : Option (Box Node Global)) (x y : Node) (b : Option (Bor Node)) → n.kind ≡ kinds.IfThen c a o → x ≡ c.value → y ≡ a.value → option_map (λ (z : Bor Node). z.now) b ≡ option_map (λ (d : Box Node Global). d.value) o → node_size n ≡ 8 + (node_size x + (node_size y + perhaps_size b))
   if_sized c a o x y b q p r t = kind_sized n (typed.IfThen (node_view nothing c.value) (node_view nothing a.value) (perhaps_in nothing b)) (if_kind nothing n c a o b q t) ∙ ap (λ (z : Node). 8 + (node_size z + (node_size a.value + size_perhaps (perhaps_in nothing b)))) (sym p) ∙ ap (λ (z : Node). 8 + (node_size x + (node_size z + size_perhaps (perhaps_in nothing b)))) (sym r) ∙ ap (λ k. 8 + (node_size x + (node_size y + k))) (perhaps_sized b)
 
-  case_value_sized : (c : Box Node Global) (v : Vec Node Global) (x : Node) (parts : List Node) → n.kind ≡ kinds.CaseValue c v → x ≡ c.value → parts ≡ v.items → node_size n ≡ 8 + (node_size x + size_nodes (nodes_in nothing parts))
-  case_value_sized c v x parts q p o = kind_sized n (typed.CaseValue (node_view nothing c.value) (nodes_in nothing parts)) (case_value_kind nothing n c v parts q o) ∙ ap (λ (z : Node). 8 + (node_size z + size_nodes (nodes_in nothing parts))) (sym p)
+  pub case_value_sized : (c : Box Node Global) (v : Vec Node Global) (x : Node) (values : List Node) → n.kind ≡ kinds.CaseValue c v → x ≡ c.value → values ≡ v.items → node_size n ≡ 8 + (node_size x + size_nodes (nodes_in nothing values))
+  case_value_sized c v x values q p o = kind_sized n (typed.CaseValue (node_view nothing c.value) (nodes_in nothing values)) (case_value_kind nothing n c v values q o) ∙ ap (λ (z : Node). 8 + (node_size z + size_nodes (nodes_in nothing values))) (sym p)
 
-  case_do_sized : (c : Box Node Global) (v : Vec Node Global) (x : Node) (parts : List Node) → n.kind ≡ kinds.CaseDo c v → x ≡ c.value → parts ≡ v.items → node_size n ≡ 8 + (node_size x + size_nodes (nodes_in nothing parts))
-  case_do_sized c v x parts q p o = kind_sized n (typed.CaseDo (node_view nothing c.value) (nodes_in nothing parts)) (case_do_kind nothing n c v parts q o) ∙ ap (λ (z : Node). 8 + (node_size z + size_nodes (nodes_in nothing parts))) (sym p)
-
-  pub case_sized : (c : Box Node Global) (v : Vec Node Global) (x : Node) (parts : List Node) → (n.kind ≡ kinds.CaseValue c v) ⊎ (n.kind ≡ kinds.CaseDo c v) → x ≡ c.value → parts ≡ v.items → node_size n ≡ 8 + (node_size x + size_nodes (nodes_in nothing parts))
-  case_sized c v x parts (inl q) p o = case_value_sized c v x parts q p o
-  case_sized c v x parts (inr q) p o = case_do_sized c v x parts q p o
+  pub case_do_sized : (c : Box Node Global) (v : Vec TypedPart Global) (x : Node) (parts : List TypedPart) → n.kind ≡ kinds.CaseDo c v → x ≡ c.value → parts ≡ v.items → node_size n ≡ 8 + (node_size x + size_nodes (parts_in nothing parts))
+  case_do_sized c v x parts q p o = kind_sized n (typed.CaseDo (node_view nothing c.value) (parts_in nothing parts)) (case_do_kind nothing n c v parts q o) ∙ ap (λ (z : Node). 8 + (node_size z + size_nodes (parts_in nothing parts))) (sym p)
 
   pub for_step_sized : (i : ℕ) (a : Box Node Global) (o : Option (Box Node Global)) (c body : Box Node Global) (x : Node) (b : Option (Bor Node)) (y z : Node) → n.kind ≡ kinds.ForStep i a o c body → x ≡ a.value → option_map (λ (w : Bor Node). w.now) b ≡ option_map (λ (d : Box Node Global). d.value) o → y ≡ c.value → z ≡ body.value → node_size n ≡ 8 + (node_size x + (perhaps_size b + (node_size y + node_size z)))
   for_step_sized i a o c body x b y z q p t r s =
@@ -150,15 +148,11 @@ module _ (e : Emitter) (n : Node) (r : IsCodable e (node_in n)) where
   pub if_given : (c a : Box Node Global) (o : Option (Box Node Global)) (x y : Node) (b : Option (Bor Node)) → n.kind ≡ kinds.IfThen c a o → x ≡ c.value → y ≡ a.value → option_map (λ (z : Bor Node). z.now) b ≡ option_map (λ (d : Box Node Global). d.value) o → IsCodable e (with_kind n (if_of x y b))
   if_given c a o x y b q p t u = subst (λ (z : Node). IsCodable e (with_kind n (if_of z y b))) (sym p) (subst (λ (z : Node). IsCodable e (with_kind n (if_of c.value z b))) (sym t) (if_known e n r c a o b q u))
 
-  case_value_given : (c : Box Node Global) (v : Vec Node Global) (x : Node) (parts : List Node) → n.kind ≡ kinds.CaseValue c v → x ≡ c.value → parts ≡ v.items → IsCodable e (with_kind n (case_do_of x parts))
-  case_value_given c v x parts q p o = subst (λ (z : Node). IsCodable e (with_kind n (case_do_of z parts))) (sym p) (case_value_known e n r c v parts q o)
+  pub case_value_given : (c : Box Node Global) (v : Vec Node Global) (x : Node) (values : Bor (List Node)) → n.kind ≡ kinds.CaseValue c v → x ≡ c.value → values.now ≡ v.items → IsCodable e (with_kind n (case_of x (choice.Values values)))
+  case_value_given c v x values q p o = subst (λ (z : Node). IsCodable e (with_kind n (case_of z (choice.Values values)))) (sym p) (case_value_known e n r c v values q o)
 
-  case_do_given : (c : Box Node Global) (v : Vec Node Global) (x : Node) (parts : List Node) → n.kind ≡ kinds.CaseDo c v → x ≡ c.value → parts ≡ v.items → IsCodable e (with_kind n (case_do_of x parts))
-  case_do_given c v x parts q p o = subst (λ (z : Node). IsCodable e (with_kind n (case_do_of z parts))) (sym p) (case_do_known e n r c v parts q o)
-
-  pub case_given : (c : Box Node Global) (v : Vec Node Global) (x : Node) (parts : List Node) → (n.kind ≡ kinds.CaseValue c v) ⊎ (n.kind ≡ kinds.CaseDo c v) → x ≡ c.value → parts ≡ v.items → IsCodable e (with_kind n (case_do_of x parts))
-  case_given c v x parts (inl q) p o = case_value_given c v x parts q p o
-  case_given c v x parts (inr q) p o = case_do_given c v x parts q p o
+  pub case_do_given : (c : Box Node Global) (v : Vec TypedPart Global) (x : Node) (parts : Bor (List TypedPart)) → n.kind ≡ kinds.CaseDo c v → x ≡ c.value → parts.now ≡ v.items → IsCodable e (with_kind n (case_of x (choice.Statements parts)))
+  case_do_given c v x parts q p o = subst (λ (z : Node). IsCodable e (with_kind n (case_of z (choice.Statements parts)))) (sym p) (case_do_known e n r c v parts q o)
 
   pub for_step_given : (i : ℕ) (a : Box Node Global) (o : Option (Box Node Global)) (c body : Box Node Global) (x : Node) (b : Option (Bor Node)) (y z : Node) → n.kind ≡ kinds.ForStep i a o c body → x ≡ a.value → option_map (λ (w : Bor Node). w.now) b ≡ option_map (λ (d : Box Node Global). d.value) o → y ≡ c.value → z ≡ body.value → IsCodable e (with_kind n (for_step_of i x b y z))
   for_step_given i a o c body x b y z q p t u v =
@@ -208,15 +202,11 @@ module _ {e b : Emitter} {m : ℕ} (here : Here) (wanted : Mode) (n : Node) wher
   pub if_told : (c a : Box Node Global) (o : Option (Box Node Global)) (x y : Node) (z : Option (Bor Node)) → n.kind ≡ kinds.IfThen c a o → x ≡ c.value → y ≡ a.value → option_map (λ (w : Bor Node). w.now) z ≡ option_map (λ (d : Box Node Global). d.value) o → CodesNode e b here mode.Value (with_kind n (if_of x y z)) m → CodesNode e b here wanted (node_in n) m
   if_told c a o x y z q p t u part = if_coded here wanted n c a o z q u (subst (λ (w : Node). CodesNode e b here mode.Value (with_kind n (if_of c.value w z)) m) t (subst (λ (w : Node). CodesNode e b here mode.Value (with_kind n (if_of w y z)) m) p part))
 
-  case_value_told : (c : Box Node Global) (v : Vec Node Global) (x : Node) (parts : List Node) → n.kind ≡ kinds.CaseValue c v → x ≡ c.value → parts ≡ v.items → CodesNode e b here mode.Value (with_kind n (case_do_of x parts)) m → CodesNode e b here wanted (node_in n) m
-  case_value_told c v x parts q p o part = case_value_coded here wanted n c v parts q o (subst (λ (w : Node). CodesNode e b here mode.Value (with_kind n (case_do_of w parts)) m) p part)
+  pub case_value_told : (c : Box Node Global) (v : Vec Node Global) (x : Node) (values : Bor (List Node)) → n.kind ≡ kinds.CaseValue c v → x ≡ c.value → values.now ≡ v.items → CodesNode e b here mode.Value (with_kind n (case_of x (choice.Values values))) m → CodesNode e b here wanted (node_in n) m
+  case_value_told c v x values q p o part = case_value_coded here wanted n c v values q o (subst (λ (w : Node). CodesNode e b here mode.Value (with_kind n (case_of w (choice.Values values))) m) p part)
 
-  case_do_told : (c : Box Node Global) (v : Vec Node Global) (x : Node) (parts : List Node) → n.kind ≡ kinds.CaseDo c v → x ≡ c.value → parts ≡ v.items → CodesNode e b here mode.Value (with_kind n (case_do_of x parts)) m → CodesNode e b here wanted (node_in n) m
-  case_do_told c v x parts q p o part = case_do_coded here wanted n c v parts q o (subst (λ (w : Node). CodesNode e b here mode.Value (with_kind n (case_do_of w parts)) m) p part)
-
-  pub case_told : (c : Box Node Global) (v : Vec Node Global) (x : Node) (parts : List Node) → (n.kind ≡ kinds.CaseValue c v) ⊎ (n.kind ≡ kinds.CaseDo c v) → x ≡ c.value → parts ≡ v.items → CodesNode e b here mode.Value (with_kind n (case_do_of x parts)) m → CodesNode e b here wanted (node_in n) m
-  case_told c v x parts (inl q) p o part = case_value_told c v x parts q p o part
-  case_told c v x parts (inr q) p o part = case_do_told c v x parts q p o part
+  pub case_do_told : (c : Box Node Global) (v : Vec TypedPart Global) (x : Node) (parts : Bor (List TypedPart)) → n.kind ≡ kinds.CaseDo c v → x ≡ c.value → parts.now ≡ v.items → CodesNode e b here mode.Value (with_kind n (case_of x (choice.Statements parts))) m → CodesNode e b here wanted (node_in n) m
+  case_do_told c v x parts q p o part = case_do_coded here wanted n c v parts q o (subst (λ (w : Node). CodesNode e b here mode.Value (with_kind n (case_of w (choice.Statements parts))) m) p part)
 
   pub for_step_told : (i : ℕ) (a : Box Node Global) (o : Option (Box Node Global)) (c body : Box Node Global) (x : Node) (t : Option (Bor Node)) (y z : Node) → n.kind ≡ kinds.ForStep i a o c body → x ≡ a.value → option_map (λ (w : Bor Node). w.now) t ≡ option_map (λ (d : Box Node Global). d.value) o → y ≡ c.value → z ≡ body.value → CodesNode e b here mode.Value (with_kind n (for_step_of i x t y z)) m → CodesNode e b here wanted (node_in n) m
   for_step_told i a o c body x t y z q p u v w part =

@@ -45,7 +45,8 @@ use Rattle.code_emitter.specs.Appending.{appended, replaced, with_targets}
 use Rattle.code_emitter.specs.Forms.{all_replaced, parts_to, turn}
 use Rattle.code_emitter.specs.Parts.{AreOpen, Codes, Meets, Own, next, none_own, place_in, scene}
 use Rattle.stack_codegen.specs.declared.blocks.OpenProcedure.{OpenProcedure}
-use Rattle.stack_codegen.specs.Codable.{IsReady, node_in, sizes_known}
+use Rattle.stack_codegen.specs.declared.loops.Choices.{Choices}
+use Rattle.stack_codegen.specs.Codable.{IsReady, choices_in, node_in, sizes_known}
 
 -- ---- targets
 
@@ -171,14 +172,17 @@ pub record CodesScope (old new : Emitter) (outside inside : Here) (target : ℕ)
   pub procedures : (ts : List ℕ) → Meets new.targets.items ts → DeclsStand (sizes_known (scene old)) (sizes_known (scene old)) (next old) (decls_phrase (scene old) decls) ts target
   pub labelled : (ts : List ℕ) → Meets new.targets.items ts → ItemsStand (sizes_known (scene old)) (next old + (declared_size (scene old) decls + 1)) (items_phrase (scene old) items) ts (target + procedure_count decls)
 
--- ---- the parts of a CASE
+-- ---- what a CASE chooses from
 
 abbrev pub nodes_phrase : Scene → List Node → Phrases
 nodes_phrase s nodes = phrases_of (phrase_context s) (nodes_in (numbers_in s) nodes)
 
+abbrev pub choices_phrase : Scene → Choices → Phrases
+choices_phrase s choices = phrases_of (phrase_context s) (choices_in (numbers_in s) choices)
+
 -- Jumps to the parts and the parts are coded, which go to what is next then.
-abbrev pub CodesParts : (old new : Emitter) → Here → List Node → ℕ → Type 0
-CodesParts old new here parts m = Codes none_own old new (parts_to here (next new) (nodes_phrase (scene old) parts) (scene old) (next old)) (phrases_marks (nodes_phrase (scene old) parts)) m
+abbrev pub CodesChoices : (old new : Emitter) → Here → Choices → ℕ → Type 0
+CodesChoices old new here choices m = Codes none_own old new (parts_to here (next new) (choices_phrase (scene old) choices) (scene old) (next old)) (phrases_marks (choices_phrase (scene old) choices)) m
 
 -- The jumps that were pending, but for so many, go to what is next.
 pub record EndsJumps (old new : Emitter) (pending : ℕ) : Type 0 where

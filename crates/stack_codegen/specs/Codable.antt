@@ -1,5 +1,5 @@
 -- The tree that each function codes, and what may be coded.
-use Rattle.std.specs.Prelude.{ℕ, List, [], map, Option, Some, None}
+use Rattle.std.specs.Prelude.{ℕ, List, [], map, length, Option, Some, None}
 use Rattle.std.specs.Option.{option_map}
 use Rattle.std.specs.Borrow.{Bor}
 use Rattle.value_ops.specs.declared.places.Place.{Place}
@@ -9,9 +9,10 @@ use Rattle.algolw_tree.specs.declared.programs.TypedBound.{TypedBound}
 use Rattle.algolw_tree.specs.declared.programs.TypedDecl.{TypedDecl}
 use Rattle.algolw_tree.specs.declared.programs.TypedItem.{TypedItem}
 use Rattle.algolw_tree.specs.declared.programs.TypedList.{TypedList}
+use Rattle.algolw_tree.specs.declared.programs.TypedPart.{TypedPart}
 use Rattle.algolw_typing.specs.Typed as typed
 use Rattle.algolw_typing.specs.Known.{Knows, KnowsActuals, KnowsBounds, KnowsDecls, KnowsItems, KnowsLists, KnowsNodes}
-use Rattle.algolw_typing.specs.ProgramView.{gives_view, node_view, numbered}
+use Rattle.algolw_typing.specs.ProgramView.{Numbers, gives_view, node_view, numbered, part_view}
 use Rattle.program_meaning.specs.Translating as translating
 use Rattle.program_soundness.specs.Tables.{Info, actuals_infos, bounds_infos, decls_infos, infos, items_infos, lists_infos, nodes_infos}
 use Rattle.phrase_code.specs.Coding as coding
@@ -21,14 +22,23 @@ use Rattle.compilable_programs.specs.Begun.{ActualsBegun, AllBegun, Begun, Bound
 use Rattle.compilable_programs.specs.Suits.{ActualSuits, AllSuit, BoundsSuit, DeclsSuit, ItemsSuit, Suits}
 use Rattle.symbol_table.specs.declared.here.Here.{Here}
 use Rattle.symbol_table.specs.Contexts.{AreFresh, Scene, numbers_in, phrase_context, stands}
-use Rattle.symbol_table.specs.Parts.{actuals_in, bounds_in, decls_in, items_in, lists_in, nodes_in}
+use Rattle.symbol_table.specs.Parts.{actuals_in, bounds_in, decls_in, item_node, items_in, lists_in, nodes_in, parts_in}
 use Rattle.code_emitter.specs.declared.emitter.Emitter.{Emitter}
 use Rattle.code_emitter.specs.Parts.{CodesPhrase, EmitterFits, phrase_in, scene}
+use Rattle.stack_codegen.specs.declared.loops.Choices.{Choices}
+use Rattle.stack_codegen.specs.declared.loops.Choices.TheVariants as choice
 
 -- ---- trees in memory
 
 abbrev pub node_in : Node → Scene → typed.Node
 node_in node s = node_view (numbers_in s) node
+
+-- what stands in a row, where it may be missing, and behind the labels of an item
+abbrev pub part_in : TypedPart → Scene → typed.Node
+part_in part s = part_view (numbers_in s) part
+
+abbrev pub item_in : TypedItem → Scene → typed.Node
+item_in item s = item_node (numbers_in s) item
 
 -- the node, of this kind
 abbrev pub with_kind : Node → (Scene → typed.Kind) → Scene → typed.Node
@@ -74,6 +84,18 @@ NodesSuit s nodes = AllSuit (sizes_known s) (translating.phrases_of (phrase_cont
 
 abbrev pub IsCodableNodes : Emitter → List Node → Type 0
 IsCodableNodes e nodes = IsCodablePart e (λ s. nodes_in (numbers_in s) nodes) nodes_infos KnowsNodes AllBegun NodesSuit
+
+-- those that a CASE chooses from
+abbrev pub choices_in : Numbers → Choices → typed.Nodes
+choices_in ns (choice.Values values) = nodes_in ns values.now
+choices_in ns (choice.Statements parts) = parts_in ns parts.now
+
+abbrev pub choice_count : Choices → ℕ
+choice_count (choice.Values values) = length values.now
+choice_count (choice.Statements parts) = length parts.now
+
+abbrev pub IsCodableChoices : Emitter → Choices → Type 0
+IsCodableChoices e choices = IsCodablePart e (λ s. choices_in (numbers_in s) choices) nodes_infos KnowsNodes AllBegun NodesSuit
 
 -- a list behind a name, and those behind it, for what is done with them
 abbrev pub IsCodableActuals : Emitter → List TypedActual → (Scene → typed.Actuals → Type 0) → Type 0

@@ -14,7 +14,7 @@ ghost use Rattle.symbol_table.specs.declared.here.Here.{Here};
 ghost use Rattle.symbol_table.specs.Parts.{decls_in, items_in};
 ghost use Rattle.code_emitter.specs.Parts.{Codes, EmitterFits, none_own, place_in, scene};
 ghost use Rattle.stack_codegen.specs.Blocks as blocks;
-ghost use Rattle.stack_codegen.specs.Codable.{CodesNode, IsCodable, IsCodableBounds, IsCodableDecls, IsCodableItems, with_kind};
+ghost use Rattle.stack_codegen.specs.Codable.{CodesNode, IsCodable, IsCodableBounds, IsCodableDecls, IsCodableItems, item_in, with_kind};
 
 use crate::phrases::{emit_before, emit_phrase};
 use algolw_tree::{Node, Targets, TypedBound, TypedDecl, TypedItem, TypedProc};
@@ -339,8 +339,21 @@ fn emit_items(
     for item in items {
         emitter.place(target)?;
         target = further(target, 1)?;
-        let inside = emit_phrase(emitter, here, Mode::Value, &item.phrase)?;
+        let inside = emit_item(emitter, here, item)?;
         marks = marks.max(inside);
     }
     Ok(marks)
+}
+
+/// What stands behind the labels of an item.
+#[cycle(phrases)]
+fn emit_item(emitter: &mut Emitter, here: Here, item: &TypedItem) -> Result<u32, AllocError>
+    requires { IsCodable emitter.old (item_in item.now) }
+    ensures { IfOk result (λ m. CodesNode emitter.old emitter.new here held_mode.Value (item_in item.now) m) }
+{
+    match item {
+        TypedItem::Empty(_) => emitter.alone(here, Instr::Nothing),
+        TypedItem::Plain(phrase) => emit_phrase(emitter, here, Mode::Value, phrase),
+        TypedItem::Labelled(labelled) => emit_phrase(emitter, here, Mode::Value, &labelled.phrase),
+    }
 }

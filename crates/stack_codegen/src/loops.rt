@@ -1,20 +1,42 @@
-ghost use Rattle.std.specs.Prelude.{◌<◌, ◌≤◌, IfOk, OnOk, drop, length};
+ghost use Rattle.std.specs.Prelude.{◌≡◌, ◌<◌, ◌≤◌, IfOk, OnOk, drop, length};
 ghost use Rattle.std.specs.List.{All};
 ghost use Rattle.algolw_typing.specs.Typed as typed;
 ghost use Rattle.algolw_typing.specs.ProgramView.{numbered};
 ghost use Rattle.stack_code.specs.declared.instructions.Mode.TheVariants as held_mode;
 ghost use Rattle.symbol_table.specs.Contexts.{numbers_in};
 ghost use Rattle.symbol_table.specs.Parts.{nodes_in, perhaps_in};
-ghost use Rattle.code_emitter.specs.Parts.{next};
+ghost use Rattle.code_emitter.specs.Forms.{part_at};
+ghost use Rattle.code_emitter.specs.Parts.{CodesPhrase, next, scene};
 ghost use Rattle.stack_codegen.specs.Blocks as blocks;
-ghost use Rattle.stack_codegen.specs.Codable.{CodesNode, IsCodable, IsCodableNodes, node_in, with_kind};
+ghost use Rattle.stack_codegen.specs.Codable.{CodesNode, IsCodable, IsCodableChoices, IsCodableNodes, choice_count, choices_in, node_in, part_in, with_kind};
 
 use crate::phrases::{Branch, emit_before, emit_perhaps, emit_phrase};
-use algolw_tree::Node;
+use algolw_tree::{Node, TypedPart};
 use code_emitter::{Emitter, type_given};
 use stack_code::{Constant, Instr, Mode};
 use std::alloc::AllocError;
 use symbol_table::{Entry, Here, further, number};
+
+/// The phrases that a CASE chooses from.
+#[derive(Clone, Copy)]
+pub(crate) enum Choices<'p> {
+    /// Values.
+    Values(&'p [Node]),
+    /// Statements, which may be missing.
+    Statements(&'p [TypedPart]),
+}
+
+impl Choices<'_> {
+    /// How many there are.
+    fn count(self) -> usize
+        ensures { result ≡ choice_count self.entry }
+    {
+        match self {
+            Choices::Values(values) => values.len(),
+            Choices::Statements(parts) => parts.len(),
+        }
+    }
+}
 
 /// A CASE.
 #[cycle(phrases)]
@@ -23,43 +45,74 @@ pub fn emit_case(
     here: Here,
     node: &Node,
     subject: &Node,
-    parts: &[Node],
+    choices: Choices<'_>,
 ) -> Result<u32, AllocError>
-    requires { IsCodable emitter.old (with_kind node.now (λ s. typed.CaseDo (node_in subject.now s) (nodes_in (numbers_in s) parts.now))) }
-    ensures { IfOk result (λ m. CodesNode emitter.old emitter.new here held_mode.Value (with_kind node.now (λ s. typed.CaseDo (node_in subject.now s) (nodes_in (numbers_in s) parts.now))) m) }
+    requires { IsCodable emitter.old (with_kind node.now (λ s. typed.CaseDo (node_in subject.now s) (choices_in (numbers_in s) choices))) }
+    ensures { IfOk result (λ m. CodesNode emitter.old emitter.new here held_mode.Value (with_kind node.now (λ s. typed.CaseDo (node_in subject.now s) (choices_in (numbers_in s) choices.entry))) m) }
 {
     emitter.begin(here, node.statement)?;
     let here = here.in_statement(node.statement);
-    let choose = Instr::Choose(number(parts.len())?);
+    let choose = Instr::Choose(number(choices.count())?);
     let subject = emit_before(emitter, here, Some(subject), choose)?;
-    let parts = emit_parts_of_case(emitter, here, parts)?;
+    let parts = emit_choices(emitter, here, choices)?;
     emitter.make(here, type_given(node.gives))?;
     Ok(subject.max(parts))
 }
 
-/// The jumps to the parts of a CASE, and the parts, each with a jump to the end.
+/// The jumps to the phrases of a CASE, and the phrases, each with a jump to the end.
 #[cycle(phrases)]
-fn emit_parts_of_case(emitter: &mut Emitter, here: Here, parts: &[Node]) -> Result<u32, AllocError>
-    requires { IsCodableNodes emitter.old parts.now }
-    ensures { IfOk result (λ m. blocks.CodesParts emitter.old emitter.new here parts.now m) }
+fn emit_choices(emitter: &mut Emitter, here: Here, choices: Choices<'_>) -> Result<u32, AllocError>
+    requires { IsCodableChoices emitter.old choices }
+    ensures { IfOk result (λ m. blocks.CodesChoices emitter.old emitter.new here choices.entry m) }
 {
+    let count = choices.count();
     let mut jump = emitter.next()?;
-    for _part in parts {
+    for _choice in 0..count {
         emitter.append(here, Instr::Jump(0))?;
     }
     let pending = emitter.pending.len();
     let mut marks = 0;
-    for part in parts {
+    for index in 0..count {
         let begin = emitter.next()?;
         emitter.code.replace(jump, Instr::Jump(begin));
         jump = further(jump, 1)?;
-        let inside = emit_phrase(emitter, here, Mode::Value, part)?;
+        let inside = emit_choice(emitter, here, choices, index)?;
         let end = emitter.append(here, Instr::Jump(0))?;
         emitter.pending.push(end)?;
         marks = marks.max(inside);
     }
     end_jumps(emitter, pending)?;
     Ok(marks)
+}
+
+/// One of the phrases of a CASE.
+#[cycle(phrases)]
+fn emit_choice(
+    emitter: &mut Emitter,
+    here: Here,
+    choices: Choices<'_>,
+    index: usize,
+) -> Result<u32, AllocError>
+    requires ready { IsCodableChoices emitter.old choices }
+    requires there { index < choice_count choices }
+    ensures { IfOk result (λ m. CodesPhrase emitter.old emitter.new here held_mode.Value (part_at index (blocks.choices_phrase (scene emitter.old) choices.entry)) m) }
+{
+    match choices {
+        Choices::Values(values) => emit_phrase(emitter, here, Mode::Value, &values[index]),
+        Choices::Statements(parts) => emit_part(emitter, here, &parts[index]),
+    }
+}
+
+/// A statement that may be missing.
+#[cycle(phrases)]
+fn emit_part(emitter: &mut Emitter, here: Here, part: &TypedPart) -> Result<u32, AllocError>
+    requires { IsCodable emitter.old (part_in part.now) }
+    ensures { IfOk result (λ m. CodesNode emitter.old emitter.new here held_mode.Value (part_in part.now) m) }
+{
+    match part {
+        TypedPart::Empty(_) => emitter.alone(here, Instr::Nothing),
+        TypedPart::Phrase(phrase) => emit_phrase(emitter, here, Mode::Value, phrase),
+    }
 }
 
 /// A WHILE.

@@ -17,7 +17,7 @@ ghost use Rattle.stack_codegen.specs.Codable.{CodesNode, IsCodable, IsCodablePer
 ghost use Rattle.stack_codegen.specs.Operations as operations;
 
 use crate::blocks::emit_block;
-use crate::loops::{emit_case, emit_for_list, emit_for_step, emit_while_do};
+use crate::loops::{Choices, emit_case, emit_for_list, emit_for_step, emit_while_do};
 use crate::names::emit_named;
 use algolw_tree::{Gives, Node, NodeKind, Op, TypedLink};
 use code_emitter::{Emitter, type_given, variable_type};
@@ -129,8 +129,11 @@ pub fn emit_phrase(
         NodeKind::IsClass(a, class, _) => emit_is_class(emitter, here, a, *class),
         NodeKind::Assign(a, b) => emit_assign(emitter, here, node, a, b),
         NodeKind::IfThen(c, a, b) => emit_if_then(emitter, here, node, c, a, b.as_deref()),
-        NodeKind::CaseValue(subject, parts) | NodeKind::CaseDo(subject, parts) => {
-            emit_case(emitter, here, node, subject, parts)
+        NodeKind::CaseValue(subject, values) => {
+            emit_case(emitter, here, node, subject, Choices::Values(values))
+        }
+        NodeKind::CaseDo(subject, parts) => {
+            emit_case(emitter, here, node, subject, Choices::Statements(parts))
         }
         NodeKind::ForStep(x, a, b, c, body) => {
             emit_for_step(emitter, here, node, *x, a, b.as_deref(), c, body)

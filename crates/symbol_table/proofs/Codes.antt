@@ -33,7 +33,7 @@ use Rattle.symbol_table.specs.declared.standings.Standing.{Standing}
 use Rattle.symbol_table.specs.declared.standings.Standing.TheVariants as standing
 use Rattle.symbol_table.specs.Blocks.{all_formals, all_names, behind, class_names, decl_formals, decl_names, decls_formals, decls_names, entry_count, entry_names, field_names, formal_count, group_names, label_names}
 use Rattle.symbol_table.specs.Contexts.{Scene, SceneFits, StandingFits, info_of, numbers_in, place_of, stand, stand_and, stands}
-use Rattle.symbol_table.specs.Parts.{decls_in, items_in}
+use Rattle.symbol_table.specs.Parts.{decls_in, item_labels, items_in}
 use Rattle.symbol_table.specs.Standings.{Names}
 use Rattle.symbol_table.specs.Symbols.{SymbolsView, class_at, formal_names, formal_standing}
 use Rattle.symbol_table.specs.Targets.{DeclsStand, ItemsStand}
@@ -154,7 +154,7 @@ module _ (s : Scene) (ts : List ℕ) where
 
   pub items_stand : (pc : translating.Context) (level mark target : ℕ) (items : List TypedItem) (more : Names) → stands s ts (label_names level mark target items more) ≡ items_at ts level mark target (items_of pc (items_in ns items)) (stands s ts more)
   items_stand pc level mark target [] more = refl
-  items_stand pc level mark target (i ∷ rest) more = labels_stand level mark target i.labels.items (label_names level mark (target + 1) rest more) (items_at ts level mark (target + 1) (items_of pc (items_in ns rest)) (stands s ts more)) (items_stand pc level mark (target + 1) rest more)
+  items_stand pc level mark target (i ∷ rest) more = labels_stand level mark target (item_labels i) (label_names level mark (target + 1) rest more) (items_at ts level mark (target + 1) (items_of pc (items_in ns rest)) (stands s ts more)) (items_stand pc level mark (target + 1) rest more)
 
   pub formals_stand : (level position : ℕ) (fs : List Formal) (more : Names) → stands s ts (formal_names level position fs more) ≡ formal_stands level position (map (code.formal_view s.given) fs) (stands s ts more)
   formals_stand level position [] more = refl

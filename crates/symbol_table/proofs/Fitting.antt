@@ -28,7 +28,7 @@ use Rattle.symbol_table.specs.declared.standings.Standing.{Standing}
 use Rattle.symbol_table.specs.declared.standings.Standing.TheVariants as standing
 use Rattle.symbol_table.specs.Blocks.{all_formals, all_names, behind, block_names, class_names, decl_fields, decl_formals, decl_names, decls_fields, decls_formals, decls_names, entry_count, entry_names, field_count, field_names, first_cursor, formal_count, group_names, label_names, procedure_count, with_block}
 use Rattle.symbol_table.specs.Contexts.{AreFresh, ClassesHad, IsOnce, Scene, SceneFits, StandingFits, block_infos, in_block, in_body, in_turn, numbers_in, place_of, places_of}
-use Rattle.symbol_table.specs.Parts.{decls_in, items_in}
+use Rattle.symbol_table.specs.Parts.{decls_in, item_labels, items_in}
 use Rattle.symbol_table.specs.Standings.{Names}
 use Rattle.symbol_table.specs.Symbols.{SymbolsView, class_at, formal_names, formal_standing}
 use Rattle.symbol_table.proofs.Cursors.{behind_is, length-fields, length-formals}
@@ -116,7 +116,7 @@ module _ (s : Scene) (fits : SceneFits s) (v : SymbolsView) where
   pub labels_fit : (level mark target : ℕ) (items : List TypedItem) (more : Names) → KnowsItems ns.names s.given.class_places (items_in ns items) → All Fits more → All Fits (label_names level mark target items more)
   labels_fit level mark target [] more k a = a
   labels_fit level mark target (i ∷ rest) more k a =
-      all_fit (standing.Label (record { level = level; position = mark }) target) tt i.labels.items (label_names level mark (target + 1) rest more) k.0 (labels_fit level mark (target + 1) rest more k.2 a)
+      all_fit (standing.Label (record { level = level; position = mark }) target) tt (item_labels i) (label_names level mark (target + 1) rest more) k.0 (labels_fit level mark (target + 1) rest more k.2 a)
 
   formal_fits : (t : FormalType) (e : Entry) → FormalTypeFits s.given t → StandingFits (with_symbols s v) (formal_standing t e)
   formal_fits (formal.ByName t) e h = h

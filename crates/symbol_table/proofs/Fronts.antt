@@ -13,6 +13,7 @@ use Rattle.symbol_table.specs.declared.blocks.Cursor.{Cursor}
 use Rattle.symbol_table.specs.declared.standings.Entry.{Entry}
 use Rattle.symbol_table.specs.declared.standings.Standing.{Standing}
 use Rattle.symbol_table.specs.declared.standings.Standing.TheVariants as standing
+use Rattle.symbol_table.specs.Parts.{item_labels}
 use Rattle.symbol_table.specs.Standings.{Names}
 use Rattle.symbol_table.specs.Symbols.{class_at, formal_names, formal_standing}
 use Rattle.symbol_table.specs.Blocks.{all_names, before, begin_of, behind, class_names, decl_names, decls_names, entry_names, field_count, field_names, group_names, label_names, names_before}
@@ -72,10 +73,10 @@ front_labels level mark target [] more = refl
 front_labels level mark target (i ∷ rest) more =
     let inner : Names = label_names level mark (target + 1) rest [] in
     let s : Standing = standing.Label (record { level = level; position = mark }) target in
-    front_all s i.labels.items (label_names level mark (target + 1) rest more)
-    ∙ ap (λ names. all_names s i.labels.items [] ++ names) (front_labels level mark (target + 1) rest more)
-    ∙ sym (append_assoc (all_names s i.labels.items []) inner more)
-    ∙ ap (λ names. names ++ more) (sym (front_all s i.labels.items inner))
+    front_all s (item_labels i) (label_names level mark (target + 1) rest more)
+    ∙ ap (λ names. all_names s (item_labels i) [] ++ names) (front_labels level mark (target + 1) rest more)
+    ∙ sym (append_assoc (all_names s (item_labels i) []) inner more)
+    ∙ ap (λ names. names ++ more) (sym (front_all s (item_labels i) inner))
 
 pub front_formals : (level position : ℕ) (formals : List Formal) (more : Names) → formal_names level position formals more ≡ formal_names level position formals [] ++ more
 front_formals level position [] more = refl

@@ -16,6 +16,7 @@ use Rattle.symbol_table.specs.declared.blocks.Cursor.{Cursor}
 use Rattle.symbol_table.specs.declared.standings.Entry.{Entry}
 use Rattle.symbol_table.specs.declared.standings.Standing.{Standing}
 use Rattle.symbol_table.specs.declared.standings.Standing.TheVariants as standing
+use Rattle.symbol_table.specs.Parts.{item_labels}
 use Rattle.symbol_table.specs.Standings.{Names}
 use Rattle.symbol_table.specs.Blocks.{all_names, before, begin_of, class_names, decl_names, entry_names, field_count, field_names, group_names, label_names, named_procedure, names_before}
 use Rattle.symbol_table.proofs.Declaring.{All-left, All-right}
@@ -55,15 +56,15 @@ groups_numbered n class position (g ∷ rest) a =
     (groups_numbered n class (position + length g.1.items) rest (All-right (Below n) (field_names class position g.0 g.1.items []) inner both))
 
 -- of each item
-pub labels_numbered : (n level mark target : ℕ) (items : List TypedItem) → All (Below n) (label_names level mark target items []) → All (λ (i : TypedItem). All (TargetBelow n) i.labels.items) items
-labels_numbered n level mark target [] a = All-nil (λ (i : TypedItem). All (TargetBelow n) i.labels.items)
+pub labels_numbered : (n level mark target : ℕ) (items : List TypedItem) → All (Below n) (label_names level mark target items []) → All (λ (i : TypedItem). All (TargetBelow n) (item_labels i)) items
+labels_numbered n level mark target [] a = All-nil (λ (i : TypedItem). All (TargetBelow n) (item_labels i))
 labels_numbered n level mark target (i ∷ rest) a =
     let inner : Names = label_names level mark (target + 1) rest [] in
     let s : Standing = standing.Label (record { level = level; position = mark }) target in
-    let both : All (Below n) (all_names s i.labels.items [] ++ inner) = subst (All (Below n)) (front_all s i.labels.items inner) a in
-    All-cons (λ (j : TypedItem). All (TargetBelow n) j.labels.items) i rest
-    (all_numbered n s i.labels.items (All-left (Below n) (all_names s i.labels.items []) inner both))
-    (labels_numbered n level mark (target + 1) rest (All-right (Below n) (all_names s i.labels.items []) inner both))
+    let both : All (Below n) (all_names s (item_labels i) [] ++ inner) = subst (All (Below n)) (front_all s (item_labels i) inner) a in
+    All-cons (λ (j : TypedItem). All (TargetBelow n) (item_labels j)) i rest
+    (all_numbered n s (item_labels i) (All-left (Below n) (all_names s (item_labels i) []) inner both))
+    (labels_numbered n level mark (target + 1) rest (All-right (Below n) (all_names s (item_labels i) []) inner both))
 
 -- of the last declarations
 pub rest_numbered : (n : ℕ) (classes : List (Option ClassId)) (level : ℕ) (end : Cursor) (i : ℕ) (decls : List TypedDecl) → All (Below n) (names_before classes level end decls []) → All (Below n) (names_before classes level end (drop i decls) [])

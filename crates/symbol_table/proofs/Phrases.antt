@@ -27,7 +27,7 @@ use Rattle.symbol_table.specs.declared.standings.Standing.{Standing}
 use Rattle.symbol_table.specs.declared.standings.Standing.TheVariants as standing
 use Rattle.symbol_table.specs.Blocks.{all_fields, all_formals, all_names, behind, class_names, decl_fields, decl_names, decls_fields, decls_names, entry_names, field_count, field_names, formal_type, formals_as, group_names, label_names}
 use Rattle.symbol_table.specs.Contexts.{Scene, StandingFits, known_and, knowns, numbers_in, place_of}
-use Rattle.symbol_table.specs.Parts.{decls_in}
+use Rattle.symbol_table.specs.Parts.{decls_in, item_labels}
 use Rattle.symbol_table.specs.Standings.{Names}
 use Rattle.symbol_table.specs.Symbols.{SymbolsView, class_at, formal_names, formal_standing, types_of}
 use Rattle.symbol_table.proofs.Cursors.{behind_is, length-fields}
@@ -128,7 +128,7 @@ module _ (s : Scene) where
 
   pub labels_knowns : (level mark target : ℕ) (items : List TypedItem) (more : Names) → knowns s (label_names level mark target items more) ≡ knowns s more
   labels_knowns level mark target [] more = refl
-  labels_knowns level mark target (i ∷ rest) more = labels_none level mark target i.labels.items (label_names level mark (target + 1) rest more) ∙ labels_knowns level mark (target + 1) rest more
+  labels_knowns level mark target (i ∷ rest) more = labels_none level mark target (item_labels i) (label_names level mark (target + 1) rest more) ∙ labels_knowns level mark (target + 1) rest more
 
   -- formals
   formal_known : (p : Place) (t : FormalType) (e : Entry) (more : List Known) → known_and s p (formal_standing t e) more ≡ record { place = p; is = formal_declared (formal_type_view s.given t) } ∷ more

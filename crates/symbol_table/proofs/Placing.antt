@@ -30,7 +30,7 @@ use Rattle.symbol_table.specs.declared.standings.Standing.{Standing}
 use Rattle.symbol_table.specs.declared.standings.Standing.TheVariants as standing
 use Rattle.symbol_table.specs.Blocks.{all_formals, all_names, behind, class_names, decl_names, decls_names, entry_count, entry_names, field_names, first_cursor, formal_type, formals_as, group_names, label_names, procedure_count}
 use Rattle.symbol_table.specs.Contexts.{ClassesHad, phrase_context, IsNumbered, Scene, SceneFits, block_infos, numbers_in, place_of, places_of}
-use Rattle.symbol_table.specs.Parts.{decls_in, items_in}
+use Rattle.symbol_table.specs.Parts.{decls_in, item_labels, items_in}
 use Rattle.symbol_table.specs.Standings.{Names}
 use Rattle.symbol_table.specs.Symbols.{class_at, formal_names}
 use Rattle.symbol_table.proofs.Fresh.{info_places}
@@ -133,7 +133,7 @@ module _ (s : Scene) where
 
   labels_placed : (level mark target : ℕ) (items : List TypedItem) → places_of s (label_names level mark target items []) ≡ info_places (labels_info (items_in ns items))
   labels_placed level mark target [] = refl
-  labels_placed level mark target (i ∷ rest) = all_placed _ _ _ i.labels.items (label_names level mark (target + 1) rest []) (labels_info (items_in ns rest)) (labels_placed level mark (target + 1) rest)
+  labels_placed level mark target (i ∷ rest) = all_placed _ _ _ (item_labels i) (label_names level mark (target + 1) rest []) (labels_info (items_in ns rest)) (labels_placed level mark (target + 1) rest)
 
   -- formals that are the same, in front of others
   as_placed : (level position : ℕ) (t : FormalType) (d : Declared) (m : Option Meaning) (xs : List (ℕ × Place)) (fs : List Formal) (rest : List Info) → ((p : ℕ) → places_of s (formal_names level p fs []) ≡ info_places rest) → places_of s (formal_names level position (formals_as t xs ++ fs) []) ≡ info_places (each_info d m (targets_view ns xs) rest)

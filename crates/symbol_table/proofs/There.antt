@@ -27,6 +27,7 @@ use Rattle.symbol_table.specs.declared.standings.Standing.{Standing}
 use Rattle.symbol_table.specs.declared.standings.Standing.TheVariants as standing
 use Rattle.symbol_table.specs.Blocks.{all_names, behind, block_names, class_names, decl_names, decls_names, entry_count, entry_names, field_count, field_names, first_cursor, group_names, label_names, named_procedure, procedure_count, procedure_standing}
 use Rattle.symbol_table.specs.Contexts.{Scene, SceneFits, StandsAt, numbers_in, place_of}
+use Rattle.symbol_table.specs.Parts.{item_labels}
 use Rattle.symbol_table.specs.Standings.{Names, every_name, standing_of}
 use Rattle.symbol_table.specs.Symbols.{class_at, formal_names, formal_standing}
 use Rattle.symbol_table.proofs.Places.{numbered_place}
@@ -75,7 +76,7 @@ module _ (s : Scene) where
   labels_there : (level mark target : ℕ) (items : List TypedItem) (more : Names) → All There more → All There (label_names level mark target items more)
   labels_there level mark target [] more a = a
   labels_there level mark target (i ∷ rest) more a =
-      all_there (standing.Label (record { level = level; position = mark }) target) (λ p. tt) i.labels.items (label_names level mark (target + 1) rest more) (labels_there level mark (target + 1) rest more a)
+      all_there (standing.Label (record { level = level; position = mark }) target) (λ p. tt) (item_labels i) (label_names level mark (target + 1) rest more) (labels_there level mark (target + 1) rest more a)
 
   pub block_there : (here : Here) (target : ℕ) (decls : List TypedDecl) (items : List TypedItem) → ClassesOf s decls → All There s.symbols.names → All There (block_names s.symbols here target decls items s.symbols.names)
   block_there here target decls items k a =

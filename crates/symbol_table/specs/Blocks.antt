@@ -22,6 +22,7 @@ use Rattle.symbol_table.specs.declared.here.Here.{Here}
 use Rattle.symbol_table.specs.declared.standings.Entry.{Entry}
 use Rattle.symbol_table.specs.declared.standings.Standing.{Standing}
 use Rattle.symbol_table.specs.declared.standings.Standing.TheVariants as standing
+use Rattle.symbol_table.specs.Parts.{item_labels}
 use Rattle.symbol_table.specs.Standings.{Names}
 use Rattle.symbol_table.specs.Symbols.{SymbolsView, class_at}
 
@@ -160,7 +161,7 @@ decls_names classes level c (d ∷ rest) more = decl_names classes level c d (de
 -- the labels of items, of which the first has this target, at a mark
 abbrev pub label_names : (level mark target : ℕ) → List TypedItem → Names → Names
 label_names level mark target [] more = more
-label_names level mark target (i ∷ rest) more = all_names (standing.Label (record { level = level; position = mark }) target) i.labels.items (label_names level mark (target + 1) rest more)
+label_names level mark target (i ∷ rest) more = all_names (standing.Label (record { level = level; position = mark }) target) (item_labels i) (label_names level mark (target + 1) rest more)
 
 abbrev pub first_cursor : SymbolsView → Here → (target : ℕ) → Cursor
 first_cursor s here target = record { position = here.entries; target = target; fields = length s.fields; formals = length s.formals }

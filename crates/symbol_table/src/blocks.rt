@@ -1,6 +1,7 @@
 ghost use Rattle.std.specs.Prelude.{◌≡◌, ◌-◌, ◌∷◌, ◌++◌, ◌<◌, [], IfOk, OnOk, length, replicate};
 ghost use Rattle.std.specs.List.{All};
 ghost use Rattle.symbol_table.specs.Blocks as blocks;
+ghost use Rattle.symbol_table.specs.Parts.{item_labels};
 ghost use Rattle.symbol_table.specs.Symbols.{class_at};
 
 use crate::here::{Here, further, number};
@@ -252,9 +253,22 @@ impl Symbols {
         };
         for index in (0..items.len()).rev() {
             let target = further(first.target, number(index)?)?;
-            self.declare_all(Standing::Label(mark, target), &items[index].labels)?;
+            self.declare_labels_of(Standing::Label(mark, target), &items[index])?;
         }
         Ok(())
+    }
+
+    /// Declares the labels of an item, which stand for the same.
+    fn declare_labels_of(&mut self, standing: Standing, item: &TypedItem) -> Result<(), AllocError>
+        requires { All (λ name. name.0 < self.old.count) (item_labels item.now) }
+        ensures { OnOk result (self.new ≡ record self.old {
+          names = blocks.all_names standing (item_labels item.now) self.old.names;
+        }) }
+    {
+        match item {
+            TypedItem::Empty(_) | TypedItem::Plain(_) => Ok(()),
+            TypedItem::Labelled(labelled) => self.declare_all(standing, &labelled.labels),
+        }
     }
 
     /// Declares names that stand for the same.

@@ -2,10 +2,11 @@ ghost use Rattle.std.specs.Prelude.{◌≡◌, map, IfOk};
 ghost use Rattle.algolw_tree.specs.Tree.{ForList, Array as ArrayDecl, Linked, OfActuals};
 ghost use Rattle.algolw_tree.specs.Grammar.{at, phrases_of, bounds_of, actuals_of, block_of, named_of, chain_of, case_of, case_value, case_do};
 ghost use Rattle.token_reader.specs.Gives.{boxed_tree};
-ghost use Rattle.algolw_tree.specs.View.{tree, kind_tree, spec_tree, decl_tree, item_tree, bound_tree, list_tree, link_tree, actual_tree};
+ghost use Rattle.algolw_tree.specs.View.{tree, kind_tree, spec_tree, decl_tree, item_tree, part_tree, bound_tree, list_tree, link_tree, actual_tree};
 
 use algolw_tree::{
-    Actual, Bound, Decl, Item, Kind, Link, List, ListKind, Names, Op, Phrase, TypeSpec,
+    Actual, Bound, Decl, Item, Kind, Link, List, ListKind, Names, Op, Part, Phrase, Spelling,
+    TypeSpec,
 };
 use std::alloc::{AllocError, Global};
 use value_ops::{Name, Place};
@@ -22,10 +23,11 @@ pub fn at(place: Place, kind: Kind) -> Phrase
 }
 
 /// A name with its lists.
-pub fn named(name: (Name, Place), lists: Vec<List>) -> Phrase
-    ensures { tree result ≡ named_of (name, map list_tree lists.items) }
+pub fn named(alloc: Global, name: (Name, Place), lists: Vec<List>) -> Result<Phrase, AllocError>
+    ensures { IfOk result (λ named. tree named ≡ named_of (name, map list_tree lists.items)) }
 {
-    at(name.1, Kind::Named(name.0, lists))
+    let spelling = Spelling::new(alloc, name.0)?;
+    Ok(at(name.1, Kind::Named(spelling, lists)))
 }
 
 /// A block.
@@ -70,14 +72,14 @@ pub fn case_value(place: Place, subject: Box<Phrase>, values: Vec<Phrase>) -> Ph
 }
 
 /// A CASE with statements.
-pub fn case_do(place: Place, subject: Box<Phrase>, parts: Vec<Phrase>) -> Phrase
-    ensures { tree result ≡ case_of (place, case_do (map tree parts.items) (tree subject.value)) }
+pub fn case_do(place: Place, subject: Box<Phrase>, parts: Vec<Part>) -> Phrase
+    ensures { tree result ≡ case_of (place, case_do (map part_tree parts.items) (tree subject.value)) }
 {
     at(place, Kind::CaseDo(subject, parts))
 }
 
 /// A FOR with a list of values.
-pub fn for_list(place: Place, control: Name, values: Vec<Phrase>, body: Box<Phrase>) -> Phrase
+pub fn for_list(place: Place, control: Spelling, values: Vec<Phrase>, body: Box<Phrase>) -> Phrase
     ensures { tree result ≡ at place (ForList control (phrases_of (map tree values.items)) (tree body.value)) }
 {
     at(place, Kind::ForList(control, values, body))

@@ -1,8 +1,8 @@
-ghost use Rattle.std.specs.Prelude.{◌≡◌, suc, None, MatchOption};
+ghost use Rattle.std.specs.Prelude.{◌≡◌, suc, None, IfOk, MatchOption};
 ghost use Rattle.algolw_tree.specs.Parts.{follow, is_else};
 ghost use Rattle.algolw_tree.specs.Grammar.{empty_at, goto_of};
 ghost use Rattle.algolw_tree.specs.Tree as T;
-ghost use Rattle.algolw_tree.specs.View.{tree};
+ghost use Rattle.algolw_tree.specs.View.{empty_tree, tree};
 ghost use Rattle.algolw_grammar.specs.Kinds.{opens, has, word_number, the_word, the_symbol, a_name};
 ghost use Rattle.algolw_grammar.specs.Readers.{read_empty, read_token, read_deep};
 ghost use Rattle.algolw_grammar.specs.Reading.{read_word, read_symbol, read_name, read_number, read_goto, first_phrase, first_goto, first_decl, listing_values};
@@ -11,8 +11,8 @@ ghost use Rattle.token_reader.specs.declared.stop.Stop.TheVariants.{Unexpected, 
 ghost use Rattle.token_reader.specs.Gives.{Gives, Fails, place_at, ReadsLabel, ReadsLabels};
 
 use crate::stop::Stop;
-use algolw_tree::{Kind, Names, Phrase, Symbol, Token, TokenKind, Word};
-use std::alloc::Global;
+use algolw_tree::{Kind, Names, Phrase, Spelling, Symbol, Token, TokenKind, Word};
+use std::alloc::{AllocError, Global};
 use value_ops::{Name, Place};
 
 /// What is left to be read. Each method that reads gives what its line of the grammar says, and leaves what stands behind it.
@@ -82,7 +82,7 @@ impl Parser<'_> {
         ensures { result ≡ opens (the_symbol symbol) self.now.rest.now }
     {
         match self.rest {
-            [token, ..] => token.kind == TokenKind::Symbol(symbol),
+            [token, ..] => is_symbol(&token.kind, symbol),
             [] => false,
         }
     }
@@ -265,7 +265,7 @@ impl Parser<'_> {
                 rest @ ..,
             ] => {
                 self.rest = rest;
-                Ok((*name, *place))
+                Ok((*name.get(), *place))
             }
             _ => Err(self.unexpected()),
         }
@@ -290,16 +290,12 @@ impl Parser<'_> {
         }
     }
 
-    /// An empty phrase, which has the place of the token behind it.
-    pub fn empty(&mut self) -> Result<Phrase, Stop>
-        ensures { Gives tree result self.new.rest.now (read_empty empty_at self.old.rest.now) }
+    /// The place of an empty phrase, which is that of the token behind it.
+    pub fn empty(&self) -> Result<Place, Stop>
+        ensures { Gives empty_tree result self.now.rest.now (read_empty empty_at self.now.rest.now) }
     {
         match self.rest {
-            [token, ..] => Ok(Phrase {
-                place: token.place,
-                first: token.place,
-                kind: Kind::Empty,
-            }),
+            [token, ..] => Ok(token.place),
             [] => Err(self.unexpected()),
         }
     }
@@ -312,12 +308,12 @@ impl Parser<'_> {
         if self.at_word(Word::Goto) {
             let first = self.expect_word(Word::Goto)?;
             let label = self.expect_name()?;
-            Ok(jump_to(first, label))
+            Ok(jump_to(self.alloc, first, label)?)
         } else {
             let first = self.expect_word(Word::Go)?;
             self.expect_word(Word::To)?;
             let label = self.expect_name()?;
-            Ok(jump_to(first, label))
+            Ok(jump_to(self.alloc, first, label)?)
         }
     }
 
@@ -361,19 +357,20 @@ fn label_of(name: &Token, colon: &Token) -> Option<(Name, Place)>
 {
     match &name.kind {
         TokenKind::Named(label) if is_symbol(&colon.kind, Symbol::Colon) => {
-            Some((*label, name.place))
+            Some((*label.get(), name.place))
         }
         _ => None,
     }
 }
 
 /// A jump to a label, which begins at a place.
-fn jump_to(first: Place, label: (Name, Place)) -> Phrase
-    ensures { tree result ≡ goto_of (first, label) }
+fn jump_to(alloc: Global, first: Place, label: (Name, Place)) -> Result<Phrase, AllocError>
+    ensures { IfOk result (λ jump. tree jump ≡ goto_of (first, label)) }
 {
-    Phrase {
+    let name = Spelling::new(alloc, label.0)?;
+    Ok(Phrase {
         place: label.1,
         first,
-        kind: Kind::Goto(label.0),
-    }
+        kind: Kind::Goto(name),
+    })
 }

@@ -1,6 +1,6 @@
 -- How large a typed tree is.
 use Rattle.std.proofs.Common.{◌≡◌, ℕ, zero, suc, ◌+◌, ◌<◌, List, [], ◌∷◌, length, get_or, sym, subst, arith}
-use Rattle.algolw_typing.specs.Typed.{Node, At, Kind, Named, Negated, Abs, Signed, Chain, Relation, IsClass, Assign, IfThen, CaseValue, CaseDo, ForStep, ForList, WhileDo, Assert, Block, Perhaps, Missing, There, Nodes, no_nodes, node_and, Links, no_links, link_and, Linked, Lists, no_lists, list_and, Listing, OfActuals, OfPart, Actuals, no_actuals, actual_and, Actual, Star, Given, Items, no_items, item_and, Labelled, Bounds, no_bounds, bound_and, Between, Decls, no_decls, decl_and, Decl, Array, Proc}
+use Rattle.algolw_typing.specs.Typed.{Node, At, Kind, Named, Negated, Abs, Signed, Chain, Relation, IsClass, Assign, IfThen, CaseValue, CaseDo, ForStep, ForList, WhileDo, Assert, Block, Perhaps, Missing, There, Nodes, no_nodes, node_and, Links, no_links, link_and, Link, Linked, Lists, no_lists, list_and, Listing, OfActuals, OfPart, Actuals, no_actuals, actual_and, Actual, Star, Given, Items, no_items, item_and, Item, Labelled, Bounds, no_bounds, bound_and, Between, Decls, no_decls, decl_and, Decl, Array, Proc}
 
 abbrev mutual
   pub size : Node → ℕ
@@ -17,7 +17,7 @@ abbrev mutual
   size_kind (Assign a b) = suc (suc (size a + size b))
   size_kind (IfThen c a b) = suc (suc (size c + size a + size_perhaps b))
   size_kind (CaseValue c values) = suc (suc (size c + size_nodes values))
-  size_kind (CaseDo c parts) = suc (suc (size c + size_nodes parts))
+  size_kind (CaseDo c parts) = suc (suc (size c + size_parts parts))
   size_kind (ForStep x a step b body) = suc (suc (size a + size_perhaps step + size b + size body))
   size_kind (ForList x values body) = suc (suc (size_nodes values + size body))
   size_kind (WhileDo c a) = suc (suc (size c + size a))
@@ -33,9 +33,17 @@ abbrev mutual
   size_nodes no_nodes = 1
   size_nodes (node_and a nodes) = suc (size a + size_nodes nodes)
 
+  -- the parts of a CASE, of which each may be missing
+  pub size_parts : Nodes → ℕ
+  size_parts no_nodes = 1
+  size_parts (node_and a nodes) = suc (suc (size a) + size_parts nodes)
+
   pub size_links : Links → ℕ
   size_links no_links = 1
-  size_links (link_and (Linked op q a) links) = suc (size a + size_links links)
+  size_links (link_and l links) = suc (size_link l + size_links links)
+
+  pub size_link : Link → ℕ
+  size_link (Linked op q a) = size a
 
   pub size_lists : Lists → ℕ
   size_lists no_lists = 1
@@ -55,7 +63,10 @@ abbrev mutual
 
   pub size_items : Items → ℕ
   size_items no_items = 1
-  size_items (item_and (Labelled labels a) items) = suc (size a + size_items items)
+  size_items (item_and i items) = suc (size_item i + size_items items)
+
+  pub size_item : Item → ℕ
+  size_item (Labelled labels a) = suc (size a)
 
   pub size_bounds : Bounds → ℕ
   size_bounds no_bounds = 1

@@ -7,20 +7,22 @@ use Rattle.typing_rules.specs.declared.types.ValueType.{ValueType}
 use Rattle.typing_rules.specs.View.{value_type}
 use Rattle.algolw_typing.specs.Typed as typed
 use Rattle.typed_drafts.specs.declared.drafts.Draft.{Draft}
-use Rattle.typed_drafts.specs.declared.drafts.DraftLink.{DraftLink}
+use Rattle.typed_drafts.specs.declared.drafts.DraftLink.{DraftLink, DraftLink', out-DraftLink}
 use Rattle.typed_drafts.specs.declared.drafts.DraftList.{DraftList}
 use Rattle.typed_drafts.specs.declared.drafts.DraftItem.{DraftItem}
+use Rattle.typed_drafts.specs.declared.drafts.DraftLabelled.{DraftLabelled, DraftLabelled', out-DraftLabelled}
+use Rattle.typed_drafts.specs.declared.drafts.DraftPart.{DraftPart}
 use Rattle.typed_drafts.specs.declared.drafts.DraftActual.{DraftActual}
 use Rattle.typed_drafts.specs.declared.drafts.DraftBound.{DraftBound}
 use Rattle.typed_drafts.specs.declared.drafts.DraftKind.{DraftKind, Named, Chain, IfThen, CaseValue, CaseDo, ForStep, ForList, Block}
 use Rattle.typed_drafts.specs.declared.drafts.DraftListKind.{DraftListKind, Actuals}
 use Rattle.typed_drafts.specs.declared.drafts.DraftDecl.{DraftDecl, Array}
-use Rattle.typed_drafts.specs.declared.drafts.DraftActual.TheBlock.{hidden-the_row-DraftItem-5}
-use Rattle.typed_drafts.specs.DraftView.{draft_view, kind_view, placed_view, listing_view, actual_view, items_view, decl_view}
-use Rattle.typed_drafts.specs.DraftParts.{link_view, list_view, item_view, bound_view}
+use Rattle.typed_drafts.specs.declared.drafts.DraftActual.TheBlock.{hidden-the_row-DraftItem-6}
+use Rattle.typed_drafts.specs.DraftView.{draft_view, kind_view, placed_view, link_view, part_view, listing_view, actual_view, item_view, items_view, labelled_view, decl_view}
+use Rattle.typed_drafts.specs.DraftParts.{list_view, bound_view}
 use Rattle.typed_drafts.specs.Onto.{nodes_onto, links_onto, lists_onto, actuals_onto, items_onto, decls_onto, bounds_onto}
 use Rattle.typed_drafts.specs.StatementParts.{perhaps_of}
-use Rattle.typed_drafts.proofs.DraftRows.{slice_nodes, slice_links, slice_lists, slice_actuals, slice_items, slice_decls, slice_bounds}
+use Rattle.typed_drafts.proofs.DraftRows.{slice_nodes, slice_links, slice_parts, slice_lists, slice_actuals, slice_items, slice_decls, slice_bounds}
 
 pub named_at : (k : DraftKind) (n : Place) (v : Bor (List DraftList)) → k ≡ Named n v → kind_view k ≡ typed.Named n (lists_onto (map list_view v.now) typed.no_lists)
 named_at k n v e = ap kind_view e ∙ ap (typed.Named n) (slice_lists v.now)
@@ -31,8 +33,8 @@ chain_at k b v e = ap kind_view e ∙ ap (typed.Chain (draft_view b.now)) (slice
 pub case_value_at : (k : DraftKind) (b : Bor Draft) (v : Bor (List Draft)) → k ≡ CaseValue b v → kind_view k ≡ typed.CaseValue (draft_view b.now) (nodes_onto (map draft_view v.now) typed.no_nodes)
 case_value_at k b v e = ap kind_view e ∙ ap (typed.CaseValue (draft_view b.now)) (slice_nodes v.now)
 
-pub case_do_at : (k : DraftKind) (b : Bor Draft) (v : Bor (List Draft)) → k ≡ CaseDo b v → kind_view k ≡ typed.CaseDo (draft_view b.now) (nodes_onto (map draft_view v.now) typed.no_nodes)
-case_do_at k b v e = ap kind_view e ∙ ap (typed.CaseDo (draft_view b.now)) (slice_nodes v.now)
+pub case_do_at : (k : DraftKind) (b : Bor Draft) (v : Bor (List DraftPart)) → k ≡ CaseDo b v → kind_view k ≡ typed.CaseDo (draft_view b.now) (nodes_onto (map part_view v.now) typed.no_nodes)
+case_do_at k b v e = ap kind_view e ∙ ap (typed.CaseDo (draft_view b.now)) (slice_parts v.now)
 
 if_option : (a b : Bor Draft) (o : Option (Bor Draft)) → kind_view (IfThen a b o) ≡ typed.IfThen (draft_view a.now) (draft_view b.now) (perhaps_of o)
 if_option a b None = refl
@@ -55,7 +57,7 @@ for_list_at k n v b e = ap kind_view e ∙ ap (λ ys. typed.ForList n ys (draft_
 pub block_at : (k : DraftKind) (ds : Bor (List DraftDecl)) (is : Bor (List DraftItem)) → k ≡ Block ds is
     → kind_view k ≡ typed.Block (decls_onto (map decl_view ds.now) typed.no_decls) (items_onto (map item_view is.now) typed.no_items)
 block_at k ds is e =
-    ap kind_view e ∙ ap (λ zs. typed.Block zs (items_view (hidden-the_row-DraftItem-5 is.now))) (slice_decls ds.now)
+    ap kind_view e ∙ ap (λ zs. typed.Block zs (items_view (hidden-the_row-DraftItem-6 is.now))) (slice_decls ds.now)
     ∙ ap (typed.Block (decls_onto (map decl_view ds.now) typed.no_decls)) (slice_items is.now)
 
 pub actuals_at : (p : Place) (k : DraftListKind) (v : Bor (List DraftActual)) → k ≡ Actuals v → listing_view p k ≡ typed.OfActuals p (actuals_onto (map actual_view v.now) typed.no_actuals)
@@ -63,3 +65,11 @@ actuals_at p k v e = ap (listing_view p) e ∙ ap (typed.OfActuals p) (slice_act
 
 pub array_at : (d : DraftDecl) (t : ValueType) (ns : Bor (List Place)) (v : Bor (List DraftBound)) → d ≡ Array t ns v → decl_view d ≡ typed.Array (value_type t) (placed_view ns.now) (bounds_onto (map bound_view v.now) typed.no_bounds)
 array_at d t ns v e = ap decl_view e ∙ ap (typed.Array (value_type t) (placed_view ns.now)) (slice_bounds v.now)
+
+pub link_at : (l : DraftLink) → link_view l ≡ typed.Linked (out-DraftLink l).op (out-DraftLink l).place (draft_view (out-DraftLink l).right.now)
+unfolding out-DraftLink denote.Hole.Carrier.out
+link_at (DraftLink' op at q p f k g s) = refl
+
+pub labelled_at : (l : DraftLabelled) → labelled_view l ≡ typed.Labelled (placed_view (out-DraftLabelled l).labels.now) (draft_view (out-DraftLabelled l).phrase.now)
+unfolding out-DraftLabelled denote.Hole.Carrier.out
+labelled_at (DraftLabelled' labels q p f k g s) = refl

@@ -6,14 +6,19 @@ use Rattle.value_ops.specs.declared.places.Place.{Place}
 use Rattle.typing_rules.specs.View.{value_type, phrase_type}
 use Rattle.typing_rules.specs.declared.types.PhraseType.{PhraseType}
 use Rattle.typed_drafts.specs.declared.drafts.Draft.{Draft}
-use Rattle.typed_drafts.specs.declared.drafts.DraftKind.{DraftKind, Empty, Null, Number, Truth, BitsLit, Quoted, Goto, Named', Negated', Abs', Signed', Chain', Relation', IsClass', Assign', IfThen', CaseValue', CaseDo', ForStep', ForList', WhileDo', Assert', Block', Row_of-DraftLink, end_of-DraftLink, more_of-DraftLink, Row_of-DraftList, end_of-DraftList, more_of-DraftList, Row_of-Draft, end_of-Draft, more_of-Draft, Held-DraftKind-IfThen-2, Some', None', Row_of-DraftItem, end_of-DraftItem, more_of-DraftItem, Row_of-DraftDecl, end_of-DraftDecl, more_of-DraftDecl}
+use Rattle.typed_drafts.specs.declared.drafts.DraftKind.{DraftKind, Empty, Null, Number, Truth, BitsLit, Quoted, Goto, Named', Negated', Abs', Signed', Chain', Relation', IsClass', Assign', IfThen', CaseValue', CaseDo', ForStep', ForList', WhileDo', Assert', Block', Row_of-DraftLink, end_of-DraftLink, more_of-DraftLink, Row_of-DraftList, end_of-DraftList, more_of-DraftList, Row_of-Draft, end_of-Draft, more_of-Draft, Held-DraftKind-IfThen-2, Some', None', Row_of-DraftPart, end_of-DraftPart, more_of-DraftPart, Row_of-DraftItem, end_of-DraftItem, more_of-DraftItem, Row_of-DraftDecl, end_of-DraftDecl, more_of-DraftDecl}
+use Rattle.typed_drafts.specs.declared.drafts.DraftLink.{DraftLink, DraftLink'}
 use Rattle.typed_drafts.specs.declared.drafts.DraftActual.{DraftActual, Star, Phrase'}
+use Rattle.typed_drafts.specs.declared.drafts.DraftPart.{DraftPart, Empty as empty_part, Phrase' as phrase_part}
+use Rattle.typed_drafts.specs.declared.drafts.DraftItem.{DraftItem, Empty as empty_item, Plain', Labelled'}
+use Rattle.typed_drafts.specs.declared.drafts.DraftLabelled.{DraftLabelled, DraftLabelled'}
 use Rattle.typed_drafts.specs.declared.drafts.DraftProc.{DraftProc, DraftProc'}
 use Rattle.typed_drafts.specs.declared.drafts.DraftDecl.{DraftDecl, Simple, Array', Proc, Class, Row_of-DraftBound, end_of-DraftBound, more_of-DraftBound}
 use Rattle.typed_drafts.specs.declared.drafts.DraftListKind.{DraftListKind, Actuals', Part', Row_of-DraftActual, end_of-DraftActual, more_of-DraftActual}
 use Rattle.typed_drafts.specs.declared.drafts.DraftFormal.{DraftFormal}
 use Rattle.typed_drafts.specs.declared.drafts.DraftClass.{DraftClass}
 use Rattle.algolw_typing.specs.Typed as typed
+use Rattle.algolw_typing.specs.Types as types
 
 -- what is declared, by its place
 abbrev pub place_view : Place → typed.Placed
@@ -30,6 +35,10 @@ class_view c = typed.Class (place_view c.name) (map (λ g. record { type = value
 
 abbrev pub at_view : Place → Place → std.Option PhraseType → std.Option Place → typed.Kind → typed.Node
 at_view place first g s k = typed.At place first (option_map phrase_type g) s k
+
+-- nothing, before the token at a place: a statement, but none that is counted
+abbrev pub empty_view : Place → typed.Node
+empty_view p = typed.At p p (std.Some types.Statement) std.None typed.Empty
 
 abbrev mutual
   pub kind_view : DraftKind → typed.Kind
@@ -50,7 +59,7 @@ abbrev mutual
   kind_view (Assign' q p f k g s q2 p2 f2 k2 g2 s2) = typed.Assign (at_view p f g s (kind_view k)) (at_view p2 f2 g2 s2 (kind_view k2))
   kind_view (IfThen' q p f k g s q2 p2 f2 k2 g2 s2 otherwise) = typed.IfThen (at_view p f g s (kind_view k)) (at_view p2 f2 g2 s2 (kind_view k2)) (perhaps_view otherwise)
   kind_view (CaseValue' q p f k g s slice shape values) = typed.CaseValue (at_view p f g s (kind_view k)) (nodes_view values)
-  kind_view (CaseDo' q p f k g s slice shape parts) = typed.CaseDo (at_view p f g s (kind_view k)) (nodes_view parts)
+  kind_view (CaseDo' q p f k g s slice shape parts) = typed.CaseDo (at_view p f g s (kind_view k)) (parts_view parts)
   kind_view (ForStep' n q p f k g s step q2 p2 f2 k2 g2 s2 q3 p3 f3 k3 g3 s3) = typed.ForStep n (at_view p f g s (kind_view k)) (perhaps_view step) (at_view p2 f2 g2 s2 (kind_view k2)) (at_view p3 f3 g3 s3 (kind_view k3))
   kind_view (ForList' n slice shape values q p f k g s) = typed.ForList n (nodes_view values) (at_view p f g s (kind_view k))
   kind_view (WhileDo' q p f k g s q2 p2 f2 k2 g2 s2) = typed.WhileDo (at_view p f g s (kind_view k)) (at_view p2 f2 g2 s2 (kind_view k2))
@@ -63,7 +72,18 @@ abbrev mutual
 
   pub links_view : {m : _} → Row_of-DraftLink m → typed.Links
   links_view end_of-DraftLink = typed.no_links
-  links_view (more_of-DraftLink op q p f k g s rest) = typed.link_and (typed.Linked op q (at_view p f g s (kind_view k))) (links_view rest)
+  links_view (more_of-DraftLink link rest) = typed.link_and (link_view link) (links_view rest)
+
+  pub link_view : DraftLink → typed.Link
+  link_view (DraftLink' op at q p f k g s) = typed.Linked op at (at_view p f g s (kind_view k))
+
+  pub parts_view : {m : _} → Row_of-DraftPart m → typed.Nodes
+  parts_view end_of-DraftPart = typed.no_nodes
+  parts_view (more_of-DraftPart part rest) = typed.node_and (part_view part) (parts_view rest)
+
+  pub part_view : DraftPart → typed.Node
+  part_view (empty_part at) = empty_view at
+  part_view (phrase_part q p f k g s) = at_view p f g s (kind_view k)
 
   pub lists_view : {m : _} → Row_of-DraftList m → typed.Lists
   lists_view end_of-DraftList = typed.no_lists
@@ -87,7 +107,15 @@ abbrev mutual
 
   pub items_view : {m : _} → Row_of-DraftItem m → typed.Items
   items_view end_of-DraftItem = typed.no_items
-  items_view (more_of-DraftItem labels p f k g s rest) = typed.item_and (typed.Labelled (placed_view labels.now) (at_view p f g s (kind_view k))) (items_view rest)
+  items_view (more_of-DraftItem item rest) = typed.item_and (item_view item) (items_view rest)
+
+  pub item_view : DraftItem → typed.Item
+  item_view (empty_item at) = typed.Labelled std.[] (empty_view at)
+  item_view (Plain' q p f k g s) = typed.Labelled std.[] (at_view p f g s (kind_view k))
+  item_view (Labelled' q labelled) = labelled_view labelled
+
+  pub labelled_view : DraftLabelled → typed.Item
+  labelled_view (DraftLabelled' labels q p f k g s) = typed.Labelled (placed_view labels.now) (at_view p f g s (kind_view k))
 
   pub decls_view : {m : _} → Row_of-DraftDecl m → typed.Decls
   decls_view end_of-DraftDecl = typed.no_decls

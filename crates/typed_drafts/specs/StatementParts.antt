@@ -19,3 +19,6 @@ listing_statements (typed.OfPart q a n) = statements a
 abbrev pub actual_statements : typed.Actual → List Place
 actual_statements (typed.Star q) = []
 actual_statements (typed.Given a) = statements a
+
+abbrev pub item_statements : typed.Item → List Place
+item_statements (typed.Labelled labels a) = statements a

@@ -58,7 +58,7 @@ pub enum DraftKind<'a> {
     /// `CASE` with the values to choose from.
     CaseValue(&'a Draft<'a>, &'a [Draft<'a>]),
     /// `CASE` with the statements to choose from.
-    CaseDo(&'a Draft<'a>, &'a [Draft<'a>]),
+    CaseDo(&'a Draft<'a>, &'a [DraftPart<'a>]),
     /// `FOR` a control name, as the place where it is declared: the start, the step, the limit, and what is done.
     ForStep(Place, &'a Draft<'a>, Option<&'a Draft<'a>>, &'a Draft<'a>, &'a Draft<'a>),
     /// `FOR` a control name, as the place where it is declared: the values, and what is done.
@@ -82,7 +82,7 @@ pub struct DraftLink<'a> {
     /// The operator's place.
     pub place: Place,
     /// The operand.
-    pub right: Draft<'a>,
+    pub right: &'a Draft<'a>,
 }
 
 /// A list in parentheses behind a name.
@@ -115,14 +115,36 @@ pub enum DraftActual<'a> {
     Phrase(&'a Draft<'a>),
 }
 
+/// A phrase that may be missing, as it stands in a row.
+#[cycle(drafts)]
+#[derive(Clone, Copy)]
+pub enum DraftPart<'a> {
+    /// Nothing, before the token at a place, as between two semicolons.
+    Empty(Place),
+    /// A phrase.
+    Phrase(&'a Draft<'a>),
+}
+
 /// A phrase of a block, behind its labels.
 #[cycle(drafts)]
 #[derive(Clone, Copy)]
-pub struct DraftItem<'a> {
+pub enum DraftItem<'a> {
+    /// Nothing, without labels, before the token at a place.
+    Empty(Place),
+    /// A phrase without labels.
+    Plain(&'a Draft<'a>),
+    /// A phrase behind its labels.
+    Labelled(&'a DraftLabelled<'a>),
+}
+
+/// A phrase behind its labels.
+#[cycle(drafts)]
+#[derive(Clone, Copy)]
+pub struct DraftLabelled<'a> {
     /// Its labels, by their places.
     pub labels: Places<'a>,
     /// The phrase.
-    pub phrase: Draft<'a>,
+    pub phrase: &'a Draft<'a>,
 }
 
 /// A declaration.

@@ -6,6 +6,6 @@ mod statement_places;
 
 pub use drafts::{
     Draft, DraftActual, DraftBound, DraftClass, DraftDecl, DraftFormal, DraftItem, DraftKind,
-    DraftLink, DraftList, DraftListKind, DraftProc, Places,
+    DraftLabelled, DraftLink, DraftList, DraftListKind, DraftPart, DraftProc, Places,
 };
 pub use statement_places::statements;

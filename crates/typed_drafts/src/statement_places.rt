@@ -1,14 +1,14 @@
 ghost use Rattle.std.specs.Prelude.{◌≡◌, ◌++◌, IfOk, OnOk, map};
 ghost use Rattle.algolw_typing.specs.Typed as typed;
 ghost use Rattle.algolw_typing.specs.Programs.{statements, counted_at, kind_statements, nodes_statements, perhaps_statements, links_statements, lists_statements, actuals_statements, items_statements, bounds_statements, decls_statements, decl_statements};
-ghost use Rattle.typed_drafts.specs.DraftView.{draft_view, kind_view, actual_view, decl_view};
-ghost use Rattle.typed_drafts.specs.DraftParts.{link_view, list_view, item_view, bound_view};
+ghost use Rattle.typed_drafts.specs.DraftView.{draft_view, kind_view, link_view, actual_view, part_view, item_view, decl_view};
+ghost use Rattle.typed_drafts.specs.DraftParts.{list_view, bound_view};
 ghost use Rattle.typed_drafts.specs.Onto.{nodes_onto, links_onto, lists_onto, actuals_onto, items_onto, bounds_onto, decls_onto};
-ghost use Rattle.typed_drafts.specs.StatementParts.{perhaps_of, listing_statements, actual_statements};
+ghost use Rattle.typed_drafts.specs.StatementParts.{perhaps_of, listing_statements, actual_statements, item_statements};
 
 use crate::drafts::{
     Draft, DraftActual, DraftBound, DraftDecl, DraftItem, DraftKind, DraftLink, DraftList,
-    DraftListKind,
+    DraftListKind, DraftPart,
 };
 use std::alloc::{AllocError, Global};
 use value_ops::Place;
@@ -69,8 +69,8 @@ fn add_kind(places: &mut Vec<Place>, kind: &DraftKind) -> Result<(), AllocError>
         DraftKind::IfThen(condition, then, otherwise) => {
             add_conditional(places, condition, then, *otherwise)
         }
-        DraftKind::CaseValue(subject, values) => add_selection(places, subject, values),
-        DraftKind::CaseDo(subject, parts) => add_selection(places, subject, parts),
+        DraftKind::CaseValue(subject, values) => add_case_value(places, subject, values),
+        DraftKind::CaseDo(subject, parts) => add_case_do(places, subject, parts),
         DraftKind::ForStep(_, start, step, limit, body) => {
             add_stepped(places, start, *step, limit, body)
         }
@@ -122,19 +122,35 @@ fn add_conditional(
     Ok(())
 }
 
-/// Adds the statements of a CASE.
+/// Adds the statements of a CASE between values.
 #[cycle(statement_places)]
-fn add_selection(
+fn add_case_value(
     places: &mut Vec<Place>,
     subject: &Draft,
-    parts: &[Draft],
+    values: &[Draft],
 ) -> Result<(), AllocError>
     ensures { OnOk result (places.new.items ≡ places.old.items
         ++ (statements (draft_view subject.now)
-        ++ nodes_statements (nodes_onto (map draft_view parts.now) typed.no_nodes))) }
+        ++ nodes_statements (nodes_onto (map draft_view values.now) typed.no_nodes))) }
 {
     add_draft(places, subject)?;
-    add_drafts(places, parts)?;
+    add_drafts(places, values)?;
+    Ok(())
+}
+
+/// Adds the statements of a CASE between statements.
+#[cycle(statement_places)]
+fn add_case_do(
+    places: &mut Vec<Place>,
+    subject: &Draft,
+    parts: &[DraftPart],
+) -> Result<(), AllocError>
+    ensures { OnOk result (places.new.items ≡ places.old.items
+        ++ (statements (draft_view subject.now)
+        ++ nodes_statements (nodes_onto (map part_view parts.now) typed.no_nodes))) }
+{
+    add_draft(places, subject)?;
+    add_parts(places, parts)?;
     Ok(())
 }
 
@@ -208,6 +224,29 @@ fn add_drafts(places: &mut Vec<Place>, drafts: &[Draft]) -> Result<(), AllocErro
     Ok(())
 }
 
+/// Adds the statements of the parts of a CASE.
+#[cycle(statement_places)]
+fn add_parts(places: &mut Vec<Place>, parts: &[DraftPart]) -> Result<(), AllocError>
+    ensures { OnOk result (places.new.items ≡ places.old.items
+        ++ nodes_statements (nodes_onto (map part_view parts.now) typed.no_nodes)) }
+{
+    for part in parts {
+        add_part(places, part)?;
+    }
+    Ok(())
+}
+
+/// Adds the statements of a part of a CASE.
+#[cycle(statement_places)]
+fn add_part(places: &mut Vec<Place>, part: &DraftPart) -> Result<(), AllocError>
+    ensures { OnOk result (places.new.items ≡ places.old.items ++ statements (part_view part.now)) }
+{
+    match part {
+        DraftPart::Empty(_) => Ok(()),
+        DraftPart::Phrase(draft) => add_draft(places, draft),
+    }
+}
+
 /// Adds the statements of the operands of a chain.
 #[cycle(statement_places)]
 fn add_links(places: &mut Vec<Place>, links: &[DraftLink]) -> Result<(), AllocError>
@@ -215,7 +254,7 @@ fn add_links(places: &mut Vec<Place>, links: &[DraftLink]) -> Result<(), AllocEr
         ++ links_statements (links_onto (map link_view links.now) typed.no_links)) }
 {
     for link in links {
-        add_draft(places, &link.right)?;
+        add_draft(places, link.right)?;
     }
     Ok(())
 }
@@ -273,9 +312,21 @@ fn add_items(places: &mut Vec<Place>, items: &[DraftItem]) -> Result<(), AllocEr
         ++ items_statements (items_onto (map item_view items.now) typed.no_items)) }
 {
     for item in items {
-        add_draft(places, &item.phrase)?;
+        add_item(places, item)?;
     }
     Ok(())
+}
+
+/// Adds the statements of a phrase of a block.
+#[cycle(statement_places)]
+fn add_item(places: &mut Vec<Place>, item: &DraftItem) -> Result<(), AllocError>
+    ensures { OnOk result (places.new.items ≡ places.old.items ++ item_statements (item_view item.now)) }
+{
+    match item {
+        DraftItem::Empty(_) => Ok(()),
+        DraftItem::Plain(draft) => add_draft(places, draft),
+        DraftItem::Labelled(labelled) => add_draft(places, labelled.phrase),
+    }
 }
 
 /// Adds the statements of the bounds of arrays.

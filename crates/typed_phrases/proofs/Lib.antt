@@ -1,3 +1,4 @@
 pub mod AllParts
 pub mod Founds
 pub mod InLists
+pub mod Together

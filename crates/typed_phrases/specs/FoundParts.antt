@@ -8,8 +8,7 @@ use Rattle.algolw_typing.specs.Typing.{PhrasesOut, LinksOut}
 use Rattle.algolw_typing.specs.Verdicts.{Verdict, Silent}
 use Rattle.typing_rules.specs.View as view
 use Rattle.typing_rules.specs.declared.types.PhraseType.{PhraseType}
-use Rattle.typed_drafts.specs.DraftView.{draft_view}
-use Rattle.typed_drafts.specs.DraftParts.{link_view}
+use Rattle.typed_drafts.specs.DraftView.{draft_view, link_view}
 use Rattle.typed_drafts.specs.Onto.{nodes_onto, links_onto}
 use Rattle.typed_phrases.specs.declared.making.Phrases.{Phrases}
 use Rattle.typed_phrases.specs.declared.making.Links.{Links}

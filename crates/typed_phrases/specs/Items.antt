@@ -1,13 +1,9 @@
 -- What is found of the items of a block, and of its declarations as a whole, as the rules see it.
-use Rattle.std.specs.Prelude.{Bool, List, [], map}
-use Rattle.algolw_tree.specs.Tree as tree
-use Rattle.algolw_typing.specs.Rows.{item_row}
+use Rattle.std.specs.Prelude.{List, [], map}
 use Rattle.algolw_typing.specs.Typed as typed
-use Rattle.algolw_typing.specs.Typing.{Out, gives, DeclsOut, ItemsOut, has_labels, first_token}
-use Rattle.algolw_typing.specs.Verdicts.{Verdict, part}
+use Rattle.algolw_typing.specs.Typing.{DeclsOut, ItemsOut}
 use Rattle.typing_rules.specs.View as view
-use Rattle.typed_drafts.specs.DraftView.{decl_view}
-use Rattle.typed_drafts.specs.DraftParts.{item_view}
+use Rattle.typed_drafts.specs.DraftView.{decl_view, item_view}
 use Rattle.typed_drafts.specs.Onto.{decls_onto, items_onto}
 use Rattle.typed_drafts.specs.declared.drafts.DraftDecl.{DraftDecl}
 use Rattle.typed_phrases.specs.declared.items.Items.{Items}
@@ -21,7 +17,3 @@ decls_view ds = decls_onto (map decl_view ds) typed.no_decls
 -- declarations, without the faults in them
 abbrev pub block_decls : List DraftDecl → DeclsOut
 block_decls ds = record { inside = []; decls = decls_view ds }
-
--- the verdict of an item, which is the last or not
-abbrev pub item_end : Bool → List tree.Placed → tree.Phrase → Out → Verdict
-item_end is_last labels a o = part (gives o) (item_row is_last (has_labels labels) (first_token a))

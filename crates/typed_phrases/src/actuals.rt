@@ -227,7 +227,7 @@ pub fn read<'a>(
     let Kind::Named(name, lists) = &phrase.kind else {
         return Ok(phrase_given(false, found));
     };
-    let means = meaning_of(path.declared(name));
+    let means = meaning_of(path.declared(name.get()));
     match lists.first() {
         None => name_given(arena, wanted, means, found),
         Some(list) if lists.len() == 1 && is_of_actuals(list) => {

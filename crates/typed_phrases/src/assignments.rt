@@ -36,7 +36,7 @@ pub fn left_of(path: &KnownPath, phrase: &Phrase) -> Left
     ensures { left_view result ≡ rules.left_of (path_view path.now) (tree phrase.now) }
 {
     match &phrase.kind {
-        Kind::Named(name, _) => left_name(meaning_of(path.declared(name))),
+        Kind::Named(name, _) => left_name(meaning_of(path.declared(name.get()))),
         _ => Left::NoVariable,
     }
 }

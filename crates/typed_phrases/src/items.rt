@@ -5,8 +5,7 @@ ghost use Rattle.algolw_typing.specs.Typing as rules;
 ghost use Rattle.algolw_typing.specs.Types as types;
 ghost use Rattle.algolw_typing.specs.Verdicts as verdicts;
 ghost use Rattle.typing_rules.specs.View as view;
-ghost use Rattle.typed_drafts.specs.DraftView.{draft_view};
-ghost use Rattle.typed_drafts.specs.DraftParts.{item_view};
+ghost use Rattle.typed_drafts.specs.DraftView.{draft_view, item_view};
 ghost use Rattle.typed_phrases.specs.Items.{block_decls, items_view};
 ghost use Rattle.typed_phrases.specs.Found.{Finds};
 
@@ -16,7 +15,7 @@ use bumpalo::Bump;
 use bumpalo::collections::into_bump_slice;
 use declared_names::places;
 use std::alloc::AllocError;
-use typed_drafts::{Draft, DraftDecl, DraftItem, DraftKind};
+use typed_drafts::{Draft, DraftDecl, DraftItem, DraftKind, DraftLabelled};
 use typing_rules::{NoType, PhraseType, Verdict, item_row};
 use value_ops::Place;
 
@@ -30,7 +29,7 @@ pub struct Items<'a> {
 }
 
 /// Whether there are labels.
-fn has_labels(labels: &Names) -> bool
+pub fn has_labels(labels: &Names) -> bool
     ensures { result ≡ rules.has_labels labels.now.items }
 {
     !labels.is_empty()
@@ -39,17 +38,32 @@ fn has_labels(labels: &Names) -> bool
 /// The verdict of an item, by that of its phrase, which begins at a place.
 pub fn item_verdict<'a>(
     is_last: bool,
-    labels: &Names,
+    is_labelled: bool,
     place: Place,
     phrase: Verdict<'a>,
 ) -> Verdict<'a>
     ensures { view.verdict result ≡ verdicts.part (verdicts.type_of (view.verdict phrase.entry))
-        (rows.item_row is_last (rules.has_labels labels.now.items) place) }
+        (rows.item_row is_last is_labelled place) }
 {
     match phrase {
-        Ok(gives) => item_row(is_last, has_labels(labels), place, gives),
+        Ok(gives) => item_row(is_last, is_labelled, place, gives),
         Err(_) => Err(NoType::Silent),
     }
+}
+
+/// A phrase behind its labels.
+#[tactic(auto, using(typed_drafts::proofs::KindRows::labelled_at))]
+pub fn labelled<'a>(
+    arena: &'a Bump,
+    labels: &Names,
+    phrase: &'a Draft<'a>,
+) -> Result<DraftItem<'a>, AllocError>
+    ensures { IfOk result (λ item. item_view item
+        ≡ typed.Labelled (rules.declare_at labels.now.items) (draft_view phrase.now)) }
+{
+    let labels = places(arena, labels)?;
+    let labelled = arena.try_alloc(DraftLabelled { labels, phrase })?;
+    Ok(DraftItem::Labelled(labelled))
 }
 
 /// The verdict of items with one more behind them.
@@ -75,23 +89,14 @@ impl<'a> Items<'a> {
     }
 
     /// Adds an item with this verdict.
-    pub fn add(
-        &mut self,
-        arena: &'a Bump,
-        labels: &Names,
-        phrase: &'a Draft<'a>,
-        verdict: Verdict<'a>,
-    ) -> Result<(), AllocError>
+    pub fn add(&mut self, item: DraftItem<'a>, verdict: Verdict<'a>) -> Result<(), AllocError>
         ensures verdict { OnOk result (view.verdict self.new.verdict
             ≡ rules.then_item (view.verdict self.old.verdict) (view.verdict verdict.entry)) }
         ensures drafts { OnOk result (map item_view self.new.drafts.items
-            ≡ map item_view self.old.drafts.items
-            ++ typed.Labelled (rules.declare_at labels.now.items) (draft_view phrase.now) ∷ []) }
+            ≡ map item_view self.old.drafts.items ++ item_view item.entry ∷ []) }
     {
         self.verdict = then_item(self.verdict, verdict);
-        let labels = places(arena, labels)?;
-        let phrase = *phrase;
-        self.drafts.push(DraftItem { labels, phrase })?;
+        self.drafts.push(item)?;
         Ok(())
     }
 }

@@ -3,6 +3,7 @@
 
 mod actuals;
 mod assignments;
+mod cases;
 mod designators;
 mod items;
 mod making;
@@ -11,11 +12,12 @@ mod statements;
 
 pub use actuals::{Given, Parts, read};
 pub use assignments::{assigned, left_of};
+pub use cases::{Cases, case_do};
 pub use designators::{Front, Lists, named};
-pub use items::{Items, block, item_verdict};
+pub use items::{Items, block, has_labels, item_verdict, labelled};
 pub use making::{Links, Phrases, Spot, Typed, chained, empty, leaf, noted, quoted, relation};
 pub use prefixes::{Prefix, prefixed};
 pub use statements::{
-    Range, case_do, case_value, control_scope, for_list, for_range, if_else, if_then, is_class,
-    jump, while_do,
+    Range, case_value, control_scope, for_list, for_range, if_else, if_then, is_class, jump,
+    while_do,
 };

@@ -5,8 +5,7 @@ ghost use Rattle.algolw_typing.specs.Types as types;
 ghost use Rattle.algolw_typing.specs.Rows.{integer_row, link_row, negated_row, relation_row};
 ghost use Rattle.algolw_typing.specs.Verdicts.{part, two_parts, type_of};
 ghost use Rattle.typing_rules.specs.View as view;
-ghost use Rattle.typed_drafts.specs.DraftParts.{link_view};
-ghost use Rattle.typed_drafts.specs.DraftView.{draft_view, kind_view};
+ghost use Rattle.typed_drafts.specs.DraftView.{draft_view, kind_view, link_view};
 ghost use Rattle.typed_phrases.specs.FoundParts.{given_view, links_view};
 ghost use Rattle.typed_phrases.specs.Found.{Finds, found_view};
 
@@ -305,7 +304,7 @@ impl<'a> Links<'a> {
             ++ typed.Linked op place (draft_view right.entry.draft.now) ∷ []) }
     {
         self.verdict = linked(op, place, self.verdict, right.verdict);
-        let right = *right.draft;
+        let right = right.draft;
         self.drafts.push(DraftLink { op, place, right })?;
         Ok(())
     }

@@ -22,8 +22,8 @@ use declared_names::{Known, KnownPath, KnownScope, place_of};
 use std::alloc::{AllocError, Global};
 use typed_drafts::{Draft, DraftKind};
 use typing_rules::{
-    Meaning, NoType, PhraseType, Reading, Verdict, assert_row, case_do_row, case_value_row,
-    for_row, if_else_row, if_row, is_row, while_row,
+    Meaning, NoType, PhraseType, Reading, Verdict, assert_row, case_value_row, for_row,
+    if_else_row, if_row, is_row, while_row,
 };
 use value_ops::{Diagnostic, Name, Place};
 
@@ -186,40 +186,6 @@ pub fn case_value<'a>(
     let values = into_bump_slice(values.drafts);
     let verdict = case_value_verdict(spot, subject.verdict, gives)?;
     made(spot, verdict, DraftKind::CaseValue(subject.draft, values))
-}
-
-/// The verdict of a CASE between statements.
-fn case_do_verdict<'a>(
-    spot: Spot<'a>,
-    subject: Verdict<'a>,
-    parts: &[Option<PhraseType<'a>>],
-) -> Result<Verdict<'a>, AllocError>
-    ensures { IfOk result (λ v. view.verdict v ≡ part (type_of (view.verdict subject.entry)) (λ g.
-        all_parts (map given_view parts.now) (rows.case_do_row spot.entry.place g))) }
-{
-    let Ok(subject) = subject else {
-        return Ok(Err(NoType::Silent));
-    };
-    match all_given(spot.arena, parts)? {
-        Some(parts) => Ok(case_do_row(spot.place, subject, parts)),
-        None => Ok(Err(NoType::Silent)),
-    }
-}
-
-/// A CASE between statements.
-#[tactic(auto, using(typed_drafts::proofs::DraftRows::slice_nodes))]
-pub fn case_do<'a>(
-    spot: Spot<'a>,
-    subject: Typed<'a>,
-    parts: Phrases<'a>,
-) -> Result<Typed<'a>, AllocError>
-    ensures { IfOk result (λ t. Finds t (rules.case_do_out spot.entry.place spot.entry.first
-        (found_view subject.entry) (phrases_view parts.entry))) }
-{
-    let gives = into_bump_slice(parts.gives);
-    let parts = into_bump_slice(parts.drafts);
-    let verdict = case_do_verdict(spot, subject.verdict, gives)?;
-    made(spot, verdict, DraftKind::CaseDo(subject.draft, parts))
 }
 
 /// The verdict of a FOR, by its parts before the body.

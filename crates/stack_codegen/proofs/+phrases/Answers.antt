@@ -30,7 +30,7 @@ use Rattle.stack_codegen.proofs.CallLoops.{actual_smaller, backs_done, backs_end
 use Rattle.stack_codegen.proofs.CalledParts.{call_begins, call_goes_on, call_known, call_stands, call_told}
 use Rattle.stack_codegen.proofs.CallsMade.{call_done, call_ready, call_through_done, compared_at, compared_count, compared_fits, compared_in, entered_heads, entered_ready, inside_e, pending_within, through_backs_heads, through_backs_ready, through_ready}
 use Rattle.stack_codegen.proofs.CaseDone.{case_done, case_ready, case_type}
-use Rattle.stack_codegen.proofs.CaseParts.{ends_within, jump_more, jump_there_yet, part_ready, parts_begun, parts_ended_there, parts_more, pending_least}
+use Rattle.stack_codegen.proofs.CaseParts.{choices_ready, chosen_statement_coded, chosen_statement_less, chosen_statement_ready, chosen_value_coded, chosen_value_less, chosen_value_ready, ends_within, jump_more, jump_there_yet, parts_begun, parts_ended_there, parts_more, pending_least, statement_inside, value_inside}
 use Rattle.stack_codegen.proofs.Chains.{chain_begun, chain_done, chain_more, wanted_alone, wanted_inside}
 use Rattle.stack_codegen.proofs.Leaves.{missing_fits, quoted_done}
 use Rattle.stack_codegen.proofs.ListParts.{listed_begun, listed_done}
@@ -46,7 +46,8 @@ use Rattle.stack_codegen.proofs.Parts.{link_ready, phrase_listed}
 use Rattle.stack_codegen.proofs.Passings.{aside_done, found_fits, part_pushed, passed_done, reserve_done, stuck_done, thunk_done}
 use Rattle.stack_codegen.proofs.PhraseArms.{block_coded, block_known, goto_coded, named_coded, named_known}
 use Rattle.stack_codegen.proofs.PhraseCalls.{and_done, assignment_coded, branch_done, branch_ready, chain_node, chosen_stays, if_then_coded, link_done, missing_done, nothing_told, or_done, statement_coded}
-use Rattle.stack_codegen.proofs.PhraseCases.{abs_given, abs_sized, abs_told, assert_given, assert_sized, assert_told, assign_given, assign_sized, assign_told, block_sized, case_given, case_sized, case_told, chain_given, chain_sized, chain_told, for_list_given, for_list_sized, for_list_told, for_step_given, for_step_sized, for_step_told, if_given, if_sized, if_told, is_class_given, is_class_sized, is_class_told, lent_same, minus_told, named_sized, negated_given, negated_sized, negated_told, plus_told, relation_given, relation_sized, relation_told, signed_given, signed_sized, while_given, while_sized, while_told}
+use Rattle.stack_codegen.proofs.RowParts.{empty_item_coded, empty_part_coded, item_phrase_coded, item_phrase_ready, item_phrase_size, labelled_is, part_phrase_coded, part_phrase_ready, part_phrase_size, plain_is}
+use Rattle.stack_codegen.proofs.PhraseCases.{abs_given, abs_sized, abs_told, assert_given, assert_sized, assert_told, assign_given, assign_sized, assign_told, block_sized, case_do_given, case_do_sized, case_do_told, case_value_given, case_value_sized, case_value_told, chain_given, chain_sized, chain_told, for_list_given, for_list_sized, for_list_told, for_step_given, for_step_sized, for_step_told, if_given, if_sized, if_told, is_class_given, is_class_sized, is_class_told, lent_same, minus_told, named_sized, negated_given, negated_sized, negated_told, plus_told, relation_given, relation_sized, relation_told, signed_given, signed_sized, while_given, while_sized, while_told}
 use Rattle.stack_codegen.proofs.PhraseKinds.{class_test_plain, instruction_done, kind_done, leaf_done}
 use Rattle.stack_codegen.proofs.PhraseLinks.{constant_ready, missing_sized, written_ready, written_sized}
 use Rattle.stack_codegen.proofs.PhraseParts.{branches_done, first_jump_there, operand_done, pair_done, put_right, second_jump_there}
@@ -328,10 +329,22 @@ pub phrases::emit_phrase-returns-in-IfThen : goal.phrases::emit_phrase-returns-i
 phrases::emit_phrase-returns-in-IfThen t c = IfOk-weaker c.emit_if_then.result _ _ (λ m h. if_told c.args.here c.args.mode c.args.node.now c.in-IfThen.c c.in-IfThen.a c.in-IfThen.b c.deref-in-IfThen.result.now c.deref-in-IfThen-2.result.now c.as_deref.result c.in-IfThen.is c.deref-in-IfThen.ensures c.deref-in-IfThen-2.ensures (lent_same c.in-IfThen.b c.as_deref.result c.as_deref.ensures.cases) h) c.emit_if_then.ensures
 
 pub phrases::emit_phrase-emit_case-requires : goal.phrases::emit_phrase-emit_case-requires
-phrases::emit_phrase-emit_case-requires t c = (let size = case_sized c.args.node.now c.in-CaseValue.subject c.in-CaseValue.parts c.deref-in-CaseValue.result.now c.deref-in-CaseValue-2.result.now c.in-CaseValue.is c.deref-in-CaseValue.ensures c.deref-in-CaseValue-2.ensures.value in omega (arith, size), case_given c.args.emitter.now c.args.node.now c.requires c.in-CaseValue.subject c.in-CaseValue.parts c.deref-in-CaseValue.result.now c.deref-in-CaseValue-2.result.now c.in-CaseValue.is c.deref-in-CaseValue.ensures c.deref-in-CaseValue-2.ensures.value)
+phrases::emit_phrase-emit_case-requires t c = (
+  let size = case_value_sized c.args.node.now c.in-CaseValue.subject c.in-CaseValue.values c.deref-in-CaseValue.result.now c.deref-in-CaseValue-2.result.now c.in-CaseValue.is c.deref-in-CaseValue.ensures c.deref-in-CaseValue-2.ensures.value in omega (arith, size),
+  case_value_given c.args.emitter.now c.args.node.now c.requires c.in-CaseValue.subject c.in-CaseValue.values c.deref-in-CaseValue.result.now c.deref-in-CaseValue-2.result c.in-CaseValue.is c.deref-in-CaseValue.ensures c.deref-in-CaseValue-2.ensures.value,
+)
 
 pub phrases::emit_phrase-returns-in-CaseValue : goal.phrases::emit_phrase-returns-in-CaseValue
-phrases::emit_phrase-returns-in-CaseValue t c = IfOk-weaker c.emit_case.result _ _ (λ m h. case_told c.args.here c.args.mode c.args.node.now c.in-CaseValue.subject c.in-CaseValue.parts c.deref-in-CaseValue.result.now c.deref-in-CaseValue-2.result.now c.in-CaseValue.is c.deref-in-CaseValue.ensures c.deref-in-CaseValue-2.ensures.value h) c.emit_case.ensures
+phrases::emit_phrase-returns-in-CaseValue t c = IfOk-weaker c.emit_case.result _ _ (λ m h. case_value_told c.args.here c.args.mode c.args.node.now c.in-CaseValue.subject c.in-CaseValue.values c.deref-in-CaseValue.result.now c.deref-in-CaseValue-2.result c.in-CaseValue.is c.deref-in-CaseValue.ensures c.deref-in-CaseValue-2.ensures.value h) c.emit_case.ensures
+
+pub phrases::emit_phrase-emit_case-requires-in-CaseDo : goal.phrases::emit_phrase-emit_case-requires-in-CaseDo
+phrases::emit_phrase-emit_case-requires-in-CaseDo t c = (
+  let size = case_do_sized c.args.node.now c.in-CaseDo.subject c.in-CaseDo.parts c.deref-in-CaseDo.result.now c.deref-in-CaseDo-2.result.now c.in-CaseDo.is c.deref-in-CaseDo.ensures c.deref-in-CaseDo-2.ensures.value in omega (arith, size),
+  case_do_given c.args.emitter.now c.args.node.now c.requires c.in-CaseDo.subject c.in-CaseDo.parts c.deref-in-CaseDo.result.now c.deref-in-CaseDo-2.result c.in-CaseDo.is c.deref-in-CaseDo.ensures c.deref-in-CaseDo-2.ensures.value,
+)
+
+pub phrases::emit_phrase-returns-in-CaseDo : goal.phrases::emit_phrase-returns-in-CaseDo
+phrases::emit_phrase-returns-in-CaseDo t c = IfOk-weaker c.emit_case-in-CaseDo.result _ _ (λ m h. case_do_told c.args.here c.args.mode c.args.node.now c.in-CaseDo.subject c.in-CaseDo.parts c.deref-in-CaseDo.result.now c.deref-in-CaseDo-2.result c.in-CaseDo.is c.deref-in-CaseDo.ensures c.deref-in-CaseDo-2.ensures.value h) c.emit_case-in-CaseDo.ensures
 
 pub phrases::emit_phrase-emit_for_step-requires : goal.phrases::emit_phrase-emit_for_step-requires
 phrases::emit_phrase-emit_for_step-requires t c = (let size = for_step_sized c.args.node.now c.in-ForStep.x c.in-ForStep.a c.in-ForStep.b c.in-ForStep.c c.in-ForStep.body c.deref-in-ForStep.result.now c.as_deref-in-ForStep.result c.deref-in-ForStep-2.result.now c.deref-in-ForStep-3.result.now c.in-ForStep.is c.deref-in-ForStep.ensures (lent_same c.in-ForStep.b c.as_deref-in-ForStep.result c.as_deref-in-ForStep.ensures.cases) c.deref-in-ForStep-2.ensures c.deref-in-ForStep-3.ensures in omega (arith, size), for_step_given c.args.emitter.now c.args.node.now c.requires c.in-ForStep.x c.in-ForStep.a c.in-ForStep.b c.in-ForStep.c c.in-ForStep.body c.deref-in-ForStep.result.now c.as_deref-in-ForStep.result c.deref-in-ForStep-2.result.now c.deref-in-ForStep-3.result.now c.in-ForStep.is c.deref-in-ForStep.ensures (lent_same c.in-ForStep.b c.as_deref-in-ForStep.result c.as_deref-in-ForStep.ensures.cases) c.deref-in-ForStep-2.ensures c.deref-in-ForStep-3.ensures)
@@ -1100,8 +1113,8 @@ blocks::emit_items-loop-item-init t c = items_begin c.args.emitter.now c.args.he
 pub blocks::emit_items-place-requires : goal.blocks::emit_items-place-requires
 blocks::emit_items-place-requires t c = target_there c.args.here c.args.targets c.loop-item.target c.args.items.now c.loop-item.item-index c.item-item.result c.loop-item-test.true c.item-item.is c.loop-item.invariant
 
-pub blocks::emit_items-emit_phrase-requires : goal.blocks::emit_items-emit_phrase-requires
-blocks::emit_items-emit_phrase-requires t c =
+pub blocks::emit_items-emit_item-requires : goal.blocks::emit_items-emit_item-requires
+blocks::emit_items-emit_item-requires t c =
     let less = item_less c.args.items.now c.loop-item.item-index c.item-item.result c.loop-item-test.true c.item-item.is in
     (omega (arith, less), item_ready_there c.args.here c.args.targets c.loop-item.target c.args.items.now c.loop-item.item-index c.item-item.result c.loop-item-test.true c.item-item.is c.requires.ready c.loop-item.invariant c.in_ok-place.ensures.rest c.in_ok-place.ensures.placed)
 
@@ -1113,6 +1126,34 @@ blocks::emit_items-loop-item-preserved t c =
 pub blocks::emit_items-returns : goal.blocks::emit_items-returns
 blocks::emit_items-returns t c =
     items_done c.args.here c.args.targets c.loop-item.target c.args.items.now c.loop-item.item-index (some_length (length c.args.items.now) (sym c.is_empty.ensures ∙ c.if-is_empty.false)) (omega (arith, c.loop-item-test.false)) c.loop-item.invariant
+
+pub blocks::emit_item-alone-requires : goal.blocks::emit_item-alone-requires
+blocks::emit_item-alone-requires t c = tt
+
+pub blocks::emit_item-returns-in-Empty : goal.blocks::emit_item-returns-in-Empty
+blocks::emit_item-returns-in-Empty t c = instruction_done c.alone.result _ c.alone.ensures.none c.alone.ensures.appended (λ e. empty_item_coded c.args.here c.args.item.now c.in-Empty.field-0 c.in-Empty.is c.requires.fits.code e)
+
+pub blocks::emit_item-emit_phrase-requires : goal.blocks::emit_item-emit_phrase-requires
+blocks::emit_item-emit_phrase-requires t c =
+    let same = plain_is c.args.item.now c.in-Plain.phrase c.deref.result.now c.in-Plain.is c.deref.ensures in
+    let size = item_phrase_size c.args.item.now c.deref.result.now same in
+    (omega (arith, size), item_phrase_ready c.args.item.now c.deref.result.now same c.args.emitter.now c.requires)
+
+pub blocks::emit_item-returns-in-Plain : goal.blocks::emit_item-returns-in-Plain
+blocks::emit_item-returns-in-Plain t c =
+    let same = plain_is c.args.item.now c.in-Plain.phrase c.deref.result.now c.in-Plain.is c.deref.ensures in
+    IfOk-weaker c.emit_phrase.result _ _ (λ m h. item_phrase_coded c.args.item.now c.deref.result.now same c.args.here h) c.emit_phrase.ensures
+
+pub blocks::emit_item-emit_phrase-requires-in-Labelled : goal.blocks::emit_item-emit_phrase-requires-in-Labelled
+blocks::emit_item-emit_phrase-requires-in-Labelled t c =
+    let same = labelled_is c.args.item.now c.in-Labelled.labelled c.deref-in-Labelled.result.now c.deref-in-Labelled-2.result.now c.in-Labelled.is c.deref-in-Labelled.ensures c.deref-in-Labelled-2.ensures in
+    let size = item_phrase_size c.args.item.now c.deref-in-Labelled-2.result.now same in
+    (omega (arith, size), item_phrase_ready c.args.item.now c.deref-in-Labelled-2.result.now same c.args.emitter.now c.requires)
+
+pub blocks::emit_item-returns-in-Labelled : goal.blocks::emit_item-returns-in-Labelled
+blocks::emit_item-returns-in-Labelled t c =
+    let same = labelled_is c.args.item.now c.in-Labelled.labelled c.deref-in-Labelled.result.now c.deref-in-Labelled-2.result.now c.in-Labelled.is c.deref-in-Labelled.ensures c.deref-in-Labelled-2.ensures in
+    IfOk-weaker c.emit_phrase-in-Labelled.result _ _ (λ m h. item_phrase_coded c.args.item.now c.deref-in-Labelled-2.result.now same c.args.here h) c.emit_phrase-in-Labelled.ensures
 
 pub loops::emit_turn-emit_phrase-requires : goal.loops::emit_turn-emit_phrase-requires
 loops::emit_turn-emit_phrase-requires t c = (omega arith, turn_ready c.args.emitter.now c.args.here c.args.x c.in_ok-further.field-0 c.args.body.now c.declare_control.new.self c.in_ok-further.ensures c.in_ok-declare_control.ensures c.requires)
@@ -1254,57 +1295,96 @@ loops::emit_for_step-returns t c =
     c.in_ok-append.ensures.appended c.in_ok-start.ensures c.in_ok-step.ensures c.in_ok-append-2.ensures.appended c.in_ok-limit.ensures c.in_ok-first.ensures.number c.in_ok-first.ensures.appended c.in_ok-target.ensures.number c.in_ok-target.ensures.appended
     c.in_ok-body.ensures c.in_ok-next.ensures.appended (c.in_ok-behind.ensures ∙ ap (λ k. k + 1) c.in_ok-next.ensures.number) (put_as c.append-5.new.self c.replace.new.self c.in_ok-first.first (held.FirstTurn c.in_ok-behind.behind) c.replace.ensures) (c.max-3.ensures ∙ ap (max c.in_ok-start.start) (c.max-2.ensures ∙ ap (max c.in_ok-step.step) c.max.ensures))
 
-pub loops::emit_parts_of_case-loop-part-init : goal.loops::emit_parts_of_case-loop-part-init
-loops::emit_parts_of_case-loop-part-init t c = codes_nothing none_own c.args.emitter.now c.requires.fits.code
+pub loops::emit_choices-loop-choice-init : goal.loops::emit_choices-loop-choice-init
+loops::emit_choices-loop-choice-init t c = codes_nothing none_own c.args.emitter.now c.requires.fits.code
 
-pub loops::emit_parts_of_case-loop-part-preserved : goal.loops::emit_parts_of_case-loop-part-preserved
-loops::emit_parts_of_case-loop-part-preserved t c = jump_more c.args.here c.loop-part._part-index c.loop-part.invariant c.in_ok-append.ensures.appended
+pub loops::emit_choices-loop-choice-preserved : goal.loops::emit_choices-loop-choice-preserved
+loops::emit_choices-loop-choice-preserved t c = jump_more c.args.here c.loop-choice._choice c.loop-choice.invariant c.in_ok-append.ensures.appended
 
-pub loops::emit_parts_of_case-loop-part-2-init : goal.loops::emit_parts_of_case-loop-part-2-init
-loops::emit_parts_of_case-loop-part-2-init t c = parts_begun c.args.here c.args.parts.now c.len-pending.result c.loop-part._part-index c.in_ok-jump.jump (omega arith) c.loop-part.invariant c.in_ok-jump.ensures (omega arith)
+pub loops::emit_choices-loop-index-init : goal.loops::emit_choices-loop-index-init
+loops::emit_choices-loop-index-init t c = parts_begun c.args.here c.args.choices c.len-pending.result c.loop-choice._choice c.in_ok-jump.jump (omega arith) c.loop-choice.invariant c.in_ok-jump.ensures (omega arith)
 
-pub loops::emit_parts_of_case-replace-requires-clause-there : goal.loops::emit_parts_of_case-replace-requires-clause-there
-loops::emit_parts_of_case-replace-requires-clause-there t c = jump_there_yet c.args.here c.args.parts.now c.len-pending.result c.loop-part-2.part-index c.loop-part-2.jump (omega arith) c.loop-part-2.invariant
+pub loops::emit_choices-replace-requires-clause-there : goal.loops::emit_choices-replace-requires-clause-there
+loops::emit_choices-replace-requires-clause-there t c = jump_there_yet c.args.here c.args.choices c.len-pending.result c.loop-index.index c.loop-index.jump (omega arith) c.loop-index.invariant
 
-pub loops::emit_parts_of_case-emit_phrase-requires : goal.loops::emit_parts_of_case-emit_phrase-requires
-loops::emit_parts_of_case-emit_phrase-requires t c = (
-  omega (arith, node_less c.args.parts.now c.loop-part-2.part-index c.part-item.result (omega arith) c.part-item.is),
-  part_ready c.args.here c.args.parts.now c.len-pending.result c.loop-part-2.part-index c.loop-part-2.jump c.in_ok-begin.begin c.part-item.result (omega arith) c.part-item.is c.requires c.loop-part-2.invariant
-      (put_as c.loop-part-2.emitter c.replace.new.self c.loop-part-2.jump (held.Jump c.in_ok-begin.begin) c.replace.ensures),
+pub loops::emit_choices-emit_choice-requires : goal.loops::emit_choices-emit_choice-requires
+loops::emit_choices-emit_choice-requires t c = (
+  omega arith,
+  (
+    choices_ready c.args.here c.args.choices c.len-pending.result c.loop-index.index c.loop-index.jump c.in_ok-begin.begin c.requires c.loop-index.invariant
+        (put_as c.loop-index.emitter c.replace.new.self c.loop-index.jump (held.Jump c.in_ok-begin.begin) c.replace.ensures),
+    omega arith,
+  ),
 )
 
-pub loops::emit_parts_of_case-loop-part-2-preserved : goal.loops::emit_parts_of_case-loop-part-2-preserved
-loops::emit_parts_of_case-loop-part-2-preserved t c =
-    parts_more c.args.here c.args.parts.now c.len-pending.result c.loop-part-2.part-index c.loop-part-2.jump c.part-item.result c.in_ok-begin.begin c.in_ok-jump-2.jump c.in_ok-end.end c.push.new.self (omega arith) c.part-item.is c.loop-part-2.invariant c.in_ok-begin.ensures
-    (put_as c.loop-part-2.emitter c.replace.new.self c.loop-part-2.jump (held.Jump c.in_ok-begin.begin) c.replace.ensures) c.in_ok-jump-2.ensures c.in_ok-inside.ensures c.in_ok-end.ensures.number c.in_ok-end.ensures.appended c.in_ok-push.ensures.items
-    c.max-marks.result (max_was c.loop-part-2.marks c.in_ok-inside.inside c.max-marks.result c.max-marks.ensures)
+pub loops::emit_choices-loop-index-preserved : goal.loops::emit_choices-loop-index-preserved
+loops::emit_choices-loop-index-preserved t c =
+    parts_more c.args.here c.args.choices c.len-pending.result c.loop-index.index c.loop-index.jump c.in_ok-begin.begin c.in_ok-jump-2.jump c.in_ok-end.end c.push.new.self (omega arith) c.loop-index.invariant c.in_ok-begin.ensures
+    (put_as c.loop-index.emitter c.replace.new.self c.loop-index.jump (held.Jump c.in_ok-begin.begin) c.replace.ensures) c.in_ok-jump-2.ensures c.in_ok-inside.ensures c.in_ok-end.ensures.number c.in_ok-end.ensures.appended c.in_ok-push.ensures.items
+    c.max-marks.result (max_was c.loop-index.marks c.in_ok-inside.inside c.max-marks.result c.max-marks.ensures)
 
-pub loops::emit_parts_of_case-end_jumps-requires-clause-pending : goal.loops::emit_parts_of_case-end_jumps-requires-clause-pending
-loops::emit_parts_of_case-end_jumps-requires-clause-pending t c = pending_least c.args.here c.args.parts.now c.len-pending.result c.loop-part-2.part-index c.loop-part-2.jump c.loop-part-2.invariant
+pub loops::emit_choices-end_jumps-requires-clause-pending : goal.loops::emit_choices-end_jumps-requires-clause-pending
+loops::emit_choices-end_jumps-requires-clause-pending t c = pending_least c.args.here c.args.choices c.len-pending.result c.loop-index.index c.loop-index.jump c.loop-index.invariant
 
-pub loops::emit_parts_of_case-end_jumps-requires-clause-jumps : goal.loops::emit_parts_of_case-end_jumps-requires-clause-jumps
-loops::emit_parts_of_case-end_jumps-requires-clause-jumps t c = ends_within c.args.here c.args.parts.now c.len-pending.result c.loop-part-2.part-index c.loop-part-2.jump c.loop-part-2.invariant
+pub loops::emit_choices-end_jumps-requires-clause-jumps : goal.loops::emit_choices-end_jumps-requires-clause-jumps
+loops::emit_choices-end_jumps-requires-clause-jumps t c = ends_within c.args.here c.args.choices c.len-pending.result c.loop-index.index c.loop-index.jump c.loop-index.invariant
 
-pub loops::emit_parts_of_case-returns : goal.loops::emit_parts_of_case-returns
-loops::emit_parts_of_case-returns t c = parts_ended_there c.args.here c.args.parts.now c.len-pending.result c.loop-part-2.part-index c.loop-part-2.jump (omega arith) c.loop-part-2.invariant c.in_ok-end_jumps.ensures
+pub loops::emit_choices-returns : goal.loops::emit_choices-returns
+loops::emit_choices-returns t c = parts_ended_there c.args.here c.args.choices c.len-pending.result c.loop-index.index c.loop-index.jump (omega arith) c.loop-index.invariant c.in_ok-end_jumps.ensures
+
+pub loops::emit_choice-bounds-values-index : goal.loops::emit_choice-bounds-values-index
+loops::emit_choice-bounds-values-index t c = value_inside c.args.choices c.args.index c.requires.there c.in-Values.values c.in-Values.is
+
+pub loops::emit_choice-emit_phrase-requires : goal.loops::emit_choice-emit_phrase-requires
+loops::emit_choice-emit_phrase-requires t c =
+    let less = chosen_value_less c.args.choices c.args.index c.requires.there c.args.emitter.now c.requires.ready c.in-Values.values c.index-values-index.result c.in-Values.is c.index-values-index.is in
+    (omega (arith, less), chosen_value_ready c.args.choices c.args.index c.requires.there c.args.emitter.now c.requires.ready c.in-Values.values c.index-values-index.result c.in-Values.is c.index-values-index.is)
+
+pub loops::emit_choice-returns-in-Values : goal.loops::emit_choice-returns-in-Values
+loops::emit_choice-returns-in-Values t c = IfOk-weaker c.emit_phrase.result _ _ (λ m h. chosen_value_coded c.args.choices c.args.index c.requires.there c.args.emitter.now c.requires.ready c.in-Values.values c.index-values-index.result c.in-Values.is c.index-values-index.is c.args.here h) c.emit_phrase.ensures
+
+pub loops::emit_choice-bounds-parts-index : goal.loops::emit_choice-bounds-parts-index
+loops::emit_choice-bounds-parts-index t c = statement_inside c.args.choices c.args.index c.requires.there c.in-Statements.parts c.in-Statements.is
+
+pub loops::emit_choice-emit_part-requires : goal.loops::emit_choice-emit_part-requires
+loops::emit_choice-emit_part-requires t c =
+    let less = chosen_statement_less c.args.choices c.args.index c.requires.there c.args.emitter.now c.requires.ready c.in-Statements.parts c.index-parts-index.result c.in-Statements.is c.index-parts-index.is in
+    (omega (arith, less), chosen_statement_ready c.args.choices c.args.index c.requires.there c.args.emitter.now c.requires.ready c.in-Statements.parts c.index-parts-index.result c.in-Statements.is c.index-parts-index.is)
+
+pub loops::emit_choice-returns-in-Statements : goal.loops::emit_choice-returns-in-Statements
+loops::emit_choice-returns-in-Statements t c = IfOk-weaker c.emit_part.result _ _ (λ m h. chosen_statement_coded c.args.choices c.args.index c.requires.there c.args.emitter.now c.requires.ready c.in-Statements.parts c.index-parts-index.result c.in-Statements.is c.index-parts-index.is c.args.here h) c.emit_part.ensures
+
+pub loops::emit_part-alone-requires : goal.loops::emit_part-alone-requires
+loops::emit_part-alone-requires t c = tt
+
+pub loops::emit_part-returns-in-Empty : goal.loops::emit_part-returns-in-Empty
+loops::emit_part-returns-in-Empty t c = instruction_done c.alone.result _ c.alone.ensures.none c.alone.ensures.appended (λ e. empty_part_coded c.args.here c.args.part.now c.in-Empty.field-0 c.in-Empty.is c.requires.fits.code e)
+
+pub loops::emit_part-emit_phrase-requires : goal.loops::emit_part-emit_phrase-requires
+loops::emit_part-emit_phrase-requires t c =
+    let size = part_phrase_size c.args.part.now c.in-Phrase.phrase c.deref.result.now c.in-Phrase.is c.deref.ensures in
+    (omega (arith, size), part_phrase_ready c.args.part.now c.in-Phrase.phrase c.deref.result.now c.in-Phrase.is c.deref.ensures c.args.emitter.now c.requires)
+
+pub loops::emit_part-returns-in-Phrase : goal.loops::emit_part-returns-in-Phrase
+loops::emit_part-returns-in-Phrase t c = IfOk-weaker c.emit_phrase.result _ _ (λ m h. part_phrase_coded c.args.part.now c.in-Phrase.phrase c.deref.result.now c.in-Phrase.is c.deref.ensures c.args.here h) c.emit_phrase.ensures
 
 pub loops::emit_case-emit_before-requires : goal.loops::emit_case-emit_before-requires
-loops::emit_case-emit_before-requires t c = (omega arith, (ready_after (stays_begun c.args.here c.args.node.now.statement c.requires.fits.code c.in_ok-begin.ensures) (case_ready c.args.emitter.now c.args.node.now (node_in c.args.subject.now) c.args.parts.now c.requires).0, (tt, refl)))
+loops::emit_case-emit_before-requires t c = (omega arith, (ready_after (stays_begun c.args.here c.args.node.now.statement c.requires.fits.code c.in_ok-begin.ensures) (case_ready c.args.emitter.now c.args.node.now (node_in c.args.subject.now) c.args.choices c.requires).0, (tt, refl)))
 
-pub loops::emit_case-emit_parts_of_case-requires : goal.loops::emit_case-emit_parts_of_case-requires
-loops::emit_case-emit_parts_of_case-requires t c = (
+pub loops::emit_case-emit_choices-requires : goal.loops::emit_case-emit_choices-requires
+loops::emit_case-emit_choices-requires t c = (
   omega arith,
   ready_after c.in_ok-subject.ensures.stays
-      (ready_after (stays_begun c.args.here c.args.node.now.statement c.requires.fits.code c.in_ok-begin.ensures) (case_ready c.args.emitter.now c.args.node.now (node_in c.args.subject.now) c.args.parts.now c.requires).1),
+      (ready_after (stays_begun c.args.here c.args.node.now.statement c.requires.fits.code c.in_ok-begin.ensures) (case_ready c.args.emitter.now c.args.node.now (node_in c.args.subject.now) c.args.choices c.requires).1),
 )
 
 pub loops::emit_case-make-requires : goal.loops::emit_case-make-requires
 loops::emit_case-make-requires t c =
-    subst (λ k. KindsFit c.emit_parts_of_case.new.emitter.code.given k) (sym c.type_given.ensures)
-    (case_type c.args.node.now (node_in c.args.subject.now) c.args.parts.now c.requires
+    subst (λ k. KindsFit c.emit_choices.new.emitter.code.given k) (sym c.type_given.ensures)
+    (case_type c.args.node.now (node_in c.args.subject.now) c.args.choices c.requires
     (stays_both (stays_both (stays_begun c.args.here c.args.node.now.statement c.requires.fits.code c.in_ok-begin.ensures) c.in_ok-subject.ensures.stays) c.in_ok-parts.ensures.stays))
 
 pub loops::emit_case-returns : goal.loops::emit_case-returns
 loops::emit_case-returns t c =
-    case_done c.args.here c.in_statement-here.result c.args.node.now c.args.subject.now c.args.parts.now c.in_ok-number.field-0 c.max.result c.type_given.result c.in_statement-here.ensures c.type_given.ensures c.requires
-    c.in_ok-begin.ensures c.in_ok-number.ensures c.in_ok-subject.ensures c.in_ok-parts.ensures c.in_ok-make.ensures c.max.ensures
+    case_done c.args.here c.in_statement-here.result c.args.node.now c.args.subject.now c.args.choices c.in_ok-number.field-0 c.max.result c.type_given.result c.in_statement-here.ensures c.type_given.ensures c.requires
+    c.in_ok-begin.ensures (c.in_ok-number.ensures ∙ c.count.ensures) c.in_ok-subject.ensures c.in_ok-parts.ensures c.in_ok-make.ensures c.max.ensures

@@ -1,6 +1,6 @@
 use Rattle.std.proofs.Common.{◌+◌, drop, ◌≤◌, length, ℕ, List}
 use Rattle.algolw_tree.specs.declared.programs.TypedDecl.{Proc}
-use Rattle.algolw_typing.specs.ProgramView.{decl_view}
+use Rattle.algolw_typing.specs.ProgramView.{decl_view, part_view}
 use Rattle.code_emitter.proofs.Remaining.{Remains}
 use Rattle.code_emitter.specs.Forms.{jumps_open}
 use Rattle.code_emitter.specs.Parts.{phrase_in, scene, none_own, Codes, place_in, next}
@@ -12,12 +12,12 @@ use Rattle.stack_codegen.proofs.CallLoops.{BacksBy, LineBy, TextsBy}
 use Rattle.stack_codegen.proofs.CaseParts.{PartsUnderWay}
 use Rattle.stack_codegen.proofs.Chains.{Chained, chained}
 use Rattle.stack_codegen.proofs.ListParts.{ListedLeft}
-use Rattle.stack_codegen.proofs.NodeSizes.{node_size, nothing, perhaps_size, size_links, size_actuals, size_lists, size_nodes, size_bounds, size_decl, size_decls, size_items}
+use Rattle.stack_codegen.proofs.NodeSizes.{node_size, nothing, perhaps_size, size, size_links, size_actuals, size_lists, size_nodes, size_bounds, size_decl, size_decls, size_items}
 use Rattle.stack_codegen.proofs.StringParts.{StringLeft, whole_string}
 use Rattle.stack_codegen.proofs.ValueParts.{ValuesUnderWay}
-use Rattle.stack_codegen.specs.Codable.{node_in}
+use Rattle.stack_codegen.specs.Codable.{choices_in, node_in}
 use Rattle.stack_codegen.specs.Operations.{first_wanted}
-use Rattle.symbol_table.specs.Parts.{links_in, actuals_in, lists_in, nodes_in, bounds_in, decls_in, items_in}
+use Rattle.symbol_table.specs.Parts.{links_in, actuals_in, lists_in, nodes_in, bounds_in, decls_in, item_node, items_in}
 use Rattle.stack_codegen.proofs.+phrases.Given as goal
 
 abbrev pub decreases-phrases::emit_phrase : goal.decreases-phrases::emit_phrase
@@ -150,6 +150,9 @@ decreases-blocks::emit_body l = 3 + size_decl (decl_view nothing (Proc l.procedu
 abbrev pub decreases-blocks::emit_items : goal.decreases-blocks::emit_items
 decreases-blocks::emit_items l = 5 + size_items (items_in nothing l.items.now)
 
+abbrev pub decreases-blocks::emit_item : goal.decreases-blocks::emit_item
+decreases-blocks::emit_item l = 1 + size (item_node nothing l.item.now)
+
 abbrev pub invariant-blocks::emit_bounds-loop-bound : goal.invariant-blocks::emit_bounds-loop-bound
 invariant-blocks::emit_bounds-loop-bound l =
     Remains none_own l.fn.emitter l.emitter (left_bounds l.here l.bounds (scene l.fn.emitter) (next l.fn.emitter)) (left_bounds l.here (drop l.bound-index l.bounds)) (marks_of_bounds (scene l.fn.emitter) l.bounds) (marks_of_bounds (scene l.fn.emitter) (drop l.bound-index l.bounds)) l.marks
@@ -161,10 +164,16 @@ abbrev pub invariant-blocks::emit_items-loop-item : goal.invariant-blocks::emit_
 invariant-blocks::emit_items-loop-item l = ItemsCoded l.fn.emitter l.emitter l.here l.targets l.target l.items (drop l.item-index l.items) l.marks
 
 abbrev pub decreases-loops::emit_case : goal.decreases-loops::emit_case
-decreases-loops::emit_case l = 5 + node_size l.subject.now + size_nodes (nodes_in nothing l.parts.now)
+decreases-loops::emit_case l = 5 + node_size l.subject.now + size_nodes (choices_in nothing l.choices)
 
-abbrev pub decreases-loops::emit_parts_of_case : goal.decreases-loops::emit_parts_of_case
-decreases-loops::emit_parts_of_case l = 4 + size_nodes (nodes_in nothing l.parts.now)
+abbrev pub decreases-loops::emit_choices : goal.decreases-loops::emit_choices
+decreases-loops::emit_choices l = 4 + size_nodes (choices_in nothing l.choices)
+
+abbrev pub decreases-loops::emit_choice : goal.decreases-loops::emit_choice
+decreases-loops::emit_choice l = 3 + size_nodes (choices_in nothing l.choices)
+
+abbrev pub decreases-loops::emit_part : goal.decreases-loops::emit_part
+decreases-loops::emit_part l = 1 + size (part_view nothing l.part.now)
 
 abbrev pub decreases-loops::emit_while_do : goal.decreases-loops::emit_while_do
 decreases-loops::emit_while_do l = 4 + node_size l.c.now + node_size l.body.now
@@ -184,8 +193,8 @@ decreases-loops::emit_turn l = 1 + node_size l.body.now
 abbrev pub invariant-loops::emit_values-loop-value : goal.invariant-loops::emit_values-loop-value
 invariant-loops::emit_values-loop-value l = ValuesUnderWay l.initial.emitter l.emitter l.here l.x l.target l.values l.value-index l.marks
 
-abbrev pub invariant-loops::emit_parts_of_case-loop-part : goal.invariant-loops::emit_parts_of_case-loop-part
-invariant-loops::emit_parts_of_case-loop-part l = Codes none_own l.initial.emitter l.emitter (λ (ts : List ℕ). jumps_open (place_in (scene l.initial.emitter) l.here) l._part-index) 0 0
+abbrev pub invariant-loops::emit_choices-loop-choice : goal.invariant-loops::emit_choices-loop-choice
+invariant-loops::emit_choices-loop-choice l = Codes none_own l.initial.emitter l.emitter (λ (ts : List ℕ). jumps_open (place_in (scene l.initial.emitter) l.here) l._choice) 0 0
 
-abbrev pub invariant-loops::emit_parts_of_case-loop-part-2 : goal.invariant-loops::emit_parts_of_case-loop-part-2
-invariant-loops::emit_parts_of_case-loop-part-2 l = PartsUnderWay l.fn.emitter l.emitter l.here l.parts l.pending l.part-index l.jump l.marks
+abbrev pub invariant-loops::emit_choices-loop-index : goal.invariant-loops::emit_choices-loop-index
+invariant-loops::emit_choices-loop-index l = PartsUnderWay l.fn.emitter l.emitter l.here l.choices l.pending l.index l.jump l.marks

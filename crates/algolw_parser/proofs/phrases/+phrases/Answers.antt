@@ -2,7 +2,7 @@ use Rattle.std.proofs.Common.{◌≡◌, ap, subst, sym, ◌∙◌, map}
 use Rattle.std.specs.Prelude.{None}
 use Rattle.algolw_tree.specs.declared.tokens.Symbol.TheVariants.{Comma, Semicolon, Open}
 use Rattle.algolw_tree.specs.Grammar.{left, right, link_of}
-use Rattle.algolw_tree.specs.View.{tree, link_tree, list_tree, actual_tree, bound_tree, item_tree, decl_tree}
+use Rattle.algolw_tree.specs.View.{tree, link_tree, list_tree, actual_tree, bound_tree, part_tree, item_tree, decl_tree}
 use Rattle.algolw_grammar.specs.Kinds.{the_symbol}
 use Rattle.algolw_grammar.specs.Readers.{Got, mapped, gathered, read_left}
 use Rattle.algolw_grammar.specs.Reading.{readers, read_symbol, read_perhaps, read_actual, read_bound, read_item, read_decl, read_decls, first_decl}
@@ -25,7 +25,7 @@ later_parts-turns-smaller t c = (shrinks_part c.args.room).less c.turns.parser.r
 
 pub later_parts-turns-preserved : goal.later_parts-turns-preserved
 later_parts-turns-preserved t c =
-    turn_kept (the_symbol Semicolon) _ tree (shrinks_part c.args.room) c.turns.parts.items _ c.in_ok-one.one c.turns.parser.rest.now c.part.new.parser.rest.now _ c.in_ok-push-2.ensures.items (sym c.at_symbol.ensures ∙ c.turns-test.true) (ap (mapped right) (both_got (read_symbol Semicolon) (read_perhaps (readers c.args.room)) c.turns.parser.rest.now c.expect_symbol.new.self.rest.now c.part.new.parser.rest.now _ _ c.in_ok-expect_symbol.ensures c.in_ok-one.ensures)) c.turns.invariant
+    turn_kept (the_symbol Semicolon) _ part_tree (shrinks_part c.args.room) c.turns.parts.items _ c.in_ok-one.one c.turns.parser.rest.now c.part.new.parser.rest.now _ c.in_ok-push-2.ensures.items (sym c.at_symbol.ensures ∙ c.turns-test.true) (ap (mapped right) (both_got (read_symbol Semicolon) (read_perhaps (readers c.args.room)) c.turns.parser.rest.now c.expect_symbol.new.self.rest.now c.part.new.parser.rest.now _ _ c.in_ok-expect_symbol.ensures c.in_ok-one.ensures)) c.turns.invariant
 
 pub later_actuals-turns-smaller : goal.later_actuals-turns-smaller
 later_actuals-turns-smaller t c = (shrinks_actual c.args.room).less c.turns.parser.rest.now _ _ c.actual.new.parser.rest.now (ap (mapped right) (both_got (read_symbol Comma) (read_actual (readers c.args.room)) c.turns.parser.rest.now c.expect_symbol.new.self.rest.now c.actual.new.parser.rest.now _ _ c.in_ok-expect_symbol.ensures c.in_ok-one.ensures))
@@ -73,12 +73,12 @@ decls-returns-in_err-expect_symbol t c =
 pub iteration-returns-in_err-expect_word : goal.iteration-returns-in_err-expect_word
 iteration-returns-in_err-expect_word t c =
     let e : Stop = c.in_err-expect_word.field-0.0 in
-    failed boxed_tree c.from_residual-in_err-expect_word.result c.expect_word-then-at_values.new.self.rest.now e _ c.from_residual-in_err-expect_word.ensures (for_fails (readers c.args.room) e c.args.parser.now.rest.now c.expect_word.new.self.rest.now c.expect_name.new.self.rest.now c.expect_symbol.new.self.rest.now c.unboxed.new.parser.rest.now c.later_phrases.new.parser.rest.now _ _ _ _ _ c.in_ok-place.ensures c.in_ok-control.ensures c.in_ok-expect_symbol.ensures c.in_ok-start.ensures (sym c.at_values.ensures ∙ c.if-at_values.true) c.in_ok-values.ensures c.in_err-expect_word.ensures)
+    failed boxed_tree c.from_residual-in_err-expect_word.result c.expect_word-then-at_values.new.self.rest.now e _ c.from_residual-in_err-expect_word.ensures (for_fails (readers c.args.room) e c.args.parser.now.rest.now c.expect_word.new.self.rest.now c.expect_name.new.self.rest.now c.expect_symbol.new.self.rest.now c.unboxed.new.parser.rest.now c.later_phrases.new.parser.rest.now _ _ _ _ _ c.in_ok-place.ensures c.in_ok-name.ensures c.in_ok-expect_symbol.ensures c.in_ok-start.ensures (sym c.at_values.ensures ∙ c.if-at_values.true) c.in_ok-values.ensures c.in_err-expect_word.ensures)
 
 pub iteration-returns-in_err-values : goal.iteration-returns-in_err-values
 iteration-returns-in_err-values t c =
     let e : Stop = c.in_err-values.field-0.0 in
-    failed boxed_tree c.from_residual-in_err-values.result c.later_phrases.new.parser.rest.now e _ c.from_residual-in_err-values.ensures (values_fail (readers c.args.room) e c.args.parser.now.rest.now c.expect_word.new.self.rest.now c.expect_name.new.self.rest.now c.expect_symbol.new.self.rest.now c.unboxed.new.parser.rest.now _ _ _ _ c.in_ok-place.ensures c.in_ok-control.ensures c.in_ok-expect_symbol.ensures c.in_ok-start.ensures (sym c.at_values.ensures ∙ c.if-at_values.true) c.in_err-values.ensures)
+    failed boxed_tree c.from_residual-in_err-values.result c.later_phrases.new.parser.rest.now e _ c.from_residual-in_err-values.ensures (values_fail (readers c.args.room) e c.args.parser.now.rest.now c.expect_word.new.self.rest.now c.expect_name.new.self.rest.now c.expect_symbol.new.self.rest.now c.unboxed.new.parser.rest.now _ _ _ _ c.in_ok-place.ensures c.in_ok-name.ensures c.in_ok-expect_symbol.ensures c.in_ok-start.ensures (sym c.at_values.ensures ∙ c.if-at_values.true) c.in_err-values.ensures)
 
 pub links-turns-smaller : goal.links-turns-smaller
 links-turns-smaller t c = (shrinks_link c.args.room c.args.level).less c.turns.parser.rest.now _ _ c.operand.new.parser.rest.now (ap (mapped link_of) (both_got (read_operator c.args.level) (read_operand c.args.level (readers c.args.room)) c.turns.parser.rest.now c.operator.new.self.rest.now c.operand.new.parser.rest.now _ _ c.in_ok-op.ensures c.in_ok-right.ensures))

@@ -1,6 +1,6 @@
 use Rattle.std.proofs.Common.{◌≡◌, ◌+◌, ◌*◌, length, map}
 use Rattle.algolw_tree.specs.declared.tokens.Symbol.TheVariants.{Comma, Semicolon}
-use Rattle.algolw_tree.specs.View.{tree, link_tree, list_tree, actual_tree, bound_tree, item_tree, decl_tree}
+use Rattle.algolw_tree.specs.View.{tree, link_tree, list_tree, actual_tree, bound_tree, part_tree, item_tree, decl_tree}
 use Rattle.algolw_grammar.specs.Readers.{gathered}
 use Rattle.algolw_grammar.specs.Reading.{readers, read_later, read_perhaps, read_decls, read_bound, read_item, read_lists, read_actual}
 use Rattle.token_reader.specs.Levels.{read_links_at}
@@ -33,6 +33,9 @@ decreases-assertion l = 32 * l.room + 1
 
 abbrev pub decreases-item : goal.decreases-item
 decreases-item l = 32 * l.room + 3
+
+abbrev pub decreases-unlabelled : goal.decreases-unlabelled
+decreases-unlabelled l = 32 * l.room + 2
 
 abbrev pub decreases-later_parts : goal.decreases-later_parts
 decreases-later_parts l = 32 * l.room + 3
@@ -107,7 +110,7 @@ abbrev pub decreases-later_phrases-turns : goal.decreases-later_phrases-turns
 decreases-later_phrases-turns l = length l.parser.rest.now
 
 abbrev pub invariant-later_parts-turns : goal.invariant-later_parts-turns
-invariant-later_parts-turns l = gathered (map tree l.parts.items) (read_later Semicolon (read_perhaps (readers l.room)) l.parser.rest.now) ≡ gathered (map tree l.initial.parts.items) (read_later Semicolon (read_perhaps (readers l.room)) l.initial.parser.rest.now)
+invariant-later_parts-turns l = gathered (map part_tree l.parts.items) (read_later Semicolon (read_perhaps (readers l.room)) l.parser.rest.now) ≡ gathered (map part_tree l.initial.parts.items) (read_later Semicolon (read_perhaps (readers l.room)) l.initial.parser.rest.now)
 
 abbrev pub decreases-later_parts-turns : goal.decreases-later_parts-turns
 decreases-later_parts-turns l = length l.parser.rest.now

@@ -1,12 +1,12 @@
 use Rattle.std.proofs.Common.{◌+◌, suc, map, refl, ap, rules}
 use Rattle.algolw_typing.specs.Typed as typed
-use Rattle.typed_drafts.specs.DraftView.{draft_view, actual_view, decl_view}
-use Rattle.typed_drafts.specs.DraftParts.{link_view, list_view, item_view, bound_view}
+use Rattle.typed_drafts.specs.DraftView.{draft_view, link_view, part_view, actual_view, item_view, decl_view}
+use Rattle.typed_drafts.specs.DraftParts.{list_view, bound_view}
 use Rattle.typed_drafts.specs.Onto.{nodes_onto, links_onto, lists_onto, actuals_onto, items_onto, bounds_onto, decls_onto}
-use Rattle.typed_drafts.proofs.DraftSizes.{size, size_kind, size_nodes, size_links, size_lists, size_listing, size_actuals, size_actual, size_items, size_bounds, size_decls, size_decl, item_smaller}
+use Rattle.typed_drafts.proofs.DraftSizes.{size, size_kind, size_nodes, size_parts, size_links, size_link, size_lists, size_listing, size_actuals, size_actual, size_items, size_item, size_bounds, size_decls, size_decl, item_smaller}
 use Rattle.algolw_typing.specs.Programs.{kind_statements, decl_statements}
 use Rattle.typed_drafts.specs.StatementParts.{listing_statements}
-use Rattle.typed_drafts.proofs.KindRows.{named_at, chain_at, case_value_at, case_do_at, for_list_at, block_at, actuals_at, array_at}
+use Rattle.typed_drafts.proofs.KindRows.{link_at, named_at, chain_at, case_value_at, case_do_at, for_list_at, block_at, actuals_at, array_at}
 use Rattle.typed_drafts.proofs.StatementArms.{by_part}
 use Rattle.typed_drafts.proofs.statement_places.+statement_places.Goals as goal
 
@@ -15,10 +15,15 @@ add_drafts-add_draft-requires t c =
     let h = item_smaller (λ xs. size_nodes (nodes_onto (map draft_view xs) typed.no_nodes)) (λ x. size (draft_view x)) (λ x xs. refl) c.args.drafts.now c.loop-draft.draft-index c.draft-item.result c.loop-draft-test.true c.draft-item.is in
     search rules
 
+pub add_parts-add_part-requires : goal.add_parts-add_part-requires
+add_parts-add_part-requires t c =
+    let h = item_smaller (λ xs. size_parts (nodes_onto (map part_view xs) typed.no_nodes)) (λ x. suc (size (part_view x))) (λ x xs. refl) c.args.parts.now c.loop-part.part-index c.part-item.result c.loop-part-test.true c.part-item.is in
+    search rules
+
 pub add_links-add_draft-requires : goal.add_links-add_draft-requires
 add_links-add_draft-requires t c =
-    let h = item_smaller (λ xs. size_links (links_onto (map link_view xs) typed.no_links)) (λ x. size (draft_view x.right)) (λ x xs. refl) c.args.links.now c.loop-link.link-index c.link-item.result c.loop-link-test.true c.link-item.is in
-    search rules
+    let h = item_smaller (λ xs. size_links (links_onto (map link_view xs) typed.no_links)) (λ x. size_link (link_view x)) (λ x xs. refl) c.args.links.now c.loop-link.link-index c.link-item.result c.loop-link-test.true c.link-item.is in
+    search (rules, ap size_link (link_at c.link-item.result))
 
 pub add_lists-add_list-requires : goal.add_lists-add_list-requires
 add_lists-add_list-requires t c =
@@ -30,9 +35,9 @@ add_actuals-add_actual-requires t c =
     let h = item_smaller (λ xs. size_actuals (actuals_onto (map actual_view xs) typed.no_actuals)) (λ x. size_actual (actual_view x)) (λ x xs. refl) c.args.actuals.now c.loop-actual.actual-index c.actual-item.result c.loop-actual-test.true c.actual-item.is in
     search rules
 
-pub add_items-add_draft-requires : goal.add_items-add_draft-requires
-add_items-add_draft-requires t c =
-    let h = item_smaller (λ xs. size_items (items_onto (map item_view xs) typed.no_items)) (λ x. size (draft_view x.phrase)) (λ x xs. refl) c.args.items.now c.loop-item.item-index c.item-item.result c.loop-item-test.true c.item-item.is in
+pub add_items-add_item-requires : goal.add_items-add_item-requires
+add_items-add_item-requires t c =
+    let h = item_smaller (λ xs. size_items (items_onto (map item_view xs) typed.no_items)) (λ x. size_item (item_view x)) (λ x xs. refl) c.args.items.now c.loop-item.item-index c.item-item.result c.loop-item-test.true c.item-item.is in
     search rules
 
 pub add_bounds-add_both-requires : goal.add_bounds-add_both-requires
@@ -57,17 +62,17 @@ add_kind-add_chain-requires t c = search (rules, ap size_kind (chain_at _ c.in-C
 pub add_kind-returns-in-Chain : goal.add_kind-returns-in-Chain
 add_kind-returns-in-Chain t c = by_part kind_statements c.add_chain.result c.args.places.now.items c.add_chain.new.places.items _ _ (chain_at _ c.in-Chain.first c.in-Chain.links c.in-Chain.is) c.add_chain.ensures
 
-pub add_kind-add_selection-requires : goal.add_kind-add_selection-requires
-add_kind-add_selection-requires t c = search (rules, ap size_kind (case_value_at _ c.in-CaseValue.subject c.in-CaseValue.values c.in-CaseValue.is))
+pub add_kind-add_case_value-requires : goal.add_kind-add_case_value-requires
+add_kind-add_case_value-requires t c = search (rules, ap size_kind (case_value_at _ c.in-CaseValue.subject c.in-CaseValue.values c.in-CaseValue.is))
 
 pub add_kind-returns-in-CaseValue : goal.add_kind-returns-in-CaseValue
-add_kind-returns-in-CaseValue t c = by_part kind_statements c.add_selection.result c.args.places.now.items c.add_selection.new.places.items _ _ (case_value_at _ c.in-CaseValue.subject c.in-CaseValue.values c.in-CaseValue.is) c.add_selection.ensures
+add_kind-returns-in-CaseValue t c = by_part kind_statements c.add_case_value.result c.args.places.now.items c.add_case_value.new.places.items _ _ (case_value_at _ c.in-CaseValue.subject c.in-CaseValue.values c.in-CaseValue.is) c.add_case_value.ensures
 
-pub add_kind-add_selection-requires-in-CaseDo : goal.add_kind-add_selection-requires-in-CaseDo
-add_kind-add_selection-requires-in-CaseDo t c = search (rules, ap size_kind (case_do_at _ c.in-CaseDo.subject c.in-CaseDo.parts c.in-CaseDo.is))
+pub add_kind-add_case_do-requires : goal.add_kind-add_case_do-requires
+add_kind-add_case_do-requires t c = search (rules, ap size_kind (case_do_at _ c.in-CaseDo.subject c.in-CaseDo.parts c.in-CaseDo.is))
 
 pub add_kind-returns-in-CaseDo : goal.add_kind-returns-in-CaseDo
-add_kind-returns-in-CaseDo t c = by_part kind_statements c.add_selection-in-CaseDo.result c.args.places.now.items c.add_selection-in-CaseDo.new.places.items _ _ (case_do_at _ c.in-CaseDo.subject c.in-CaseDo.parts c.in-CaseDo.is) c.add_selection-in-CaseDo.ensures
+add_kind-returns-in-CaseDo t c = by_part kind_statements c.add_case_do.result c.args.places.now.items c.add_case_do.new.places.items _ _ (case_do_at _ c.in-CaseDo.subject c.in-CaseDo.parts c.in-CaseDo.is) c.add_case_do.ensures
 
 pub add_kind-add_listed-requires : goal.add_kind-add_listed-requires
 add_kind-add_listed-requires t c = search (rules, ap size_kind (for_list_at _ c.in-ForList.field-0 c.in-ForList.values c.in-ForList.body c.in-ForList.is))

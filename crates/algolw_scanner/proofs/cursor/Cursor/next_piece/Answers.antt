@@ -1,6 +1,7 @@
-use Rattle.std.proofs.Common.{◌≡◌, ◌≤◌, ℕ, List, ◌∷◌, ◌++◌, refl, ap, arith, length, length-append}
+use Rattle.std.proofs.Common.{◌≡◌, sym, ◌∙◌, ◌≤◌, ℕ, List, ◌∷◌, ◌++◌, refl, ap, arith, length, length-append}
 use Rattle.algolw_scanner.specs.Front.{Found, Open, Pass, Fault}
 use Rattle.algolw_tree.specs.Tokens.{text, Separator, OfKind}
+use Rattle.algolw_scanner.specs.Seen.{seen}
 use Rattle.algolw_scanner.specs.Matches.{Matches, Opens}
 use Rattle.algolw_scanner.proofs.Nexts.{matches_at, next_reads, card_reads, end_reads, skipped_comment, endless_comment}
 use Rattle.algolw_scanner.proofs.cursor.Cursor.next_piece.Goals as goal
@@ -10,16 +11,16 @@ shorter : (line u r : List ℕ) → line ≡ u ++ r → length r ≤ length line
 shorter line u r e = omega (arith, ap length e, length-append u r)
 
 blank : (c : In-Blank) → Matches c.args.self.line.now (text c.args.self.later.now) (Pass c.in-Blank.rest.now)
-blank c = matches_at c.args.self c.requires c.is_empty.result c.is_empty.ensures c.if-is_empty.false (Pass c.in-Blank.rest.now) c.in-Blank.ensures
+blank c = matches_at c.args.self c.requires c.is_empty.result c.is_empty.ensures c.if-is_empty.false (Pass c.in-Blank.rest.now) (ap (seen c.front.new.kind) (sym c.in-Blank.is) ∙ c.in_ok-found.ensures)
 
 token : (c : In-Token) → Matches c.args.self.line.now (text c.args.self.later.now) (Found c.front.new.kind c.in-Token.rest.now)
-token c = matches_at c.args.self c.requires c.is_empty.result c.is_empty.ensures c.if-is_empty.false (Found c.front.new.kind c.in-Token.rest.now) c.in-Token.ensures
+token c = matches_at c.args.self c.requires c.is_empty.result c.is_empty.ensures c.if-is_empty.false (Found c.front.new.kind c.in-Token.rest.now) (ap (seen c.front.new.kind) (sym c.in-Token.is) ∙ c.in_ok-found.ensures)
 
 fault : (c : In-Fault) → Matches c.args.self.line.now (text c.args.self.later.now) (Fault c.in-Fault.number)
-fault c = matches_at c.args.self c.requires c.is_empty.result c.is_empty.ensures c.if-is_empty.false (Fault c.in-Fault.number) c.in-Fault.ensures
+fault c = matches_at c.args.self c.requires c.is_empty.result c.is_empty.ensures c.if-is_empty.false (Fault c.in-Fault.number) (ap (seen c.front.new.kind) (sym c.in-Fault.is) ∙ c.in_ok-found.ensures)
 
 comment : (c : In-Comment) → Opens c.args.self.line.now (text c.args.self.later.now) c.in-Comment.rest.now
-comment c = matches_at c.args.self c.requires c.is_empty.result c.is_empty.ensures c.if-is_empty.false (Open c.in-Comment.rest.now) c.in-Comment.ensures
+comment c = matches_at c.args.self c.requires c.is_empty.result c.is_empty.ensures c.if-is_empty.false (Open c.in-Comment.rest.now) (ap (seen c.front.new.kind) (sym c.in-Comment.is) ∙ c.in_ok-found.ensures)
 
 pub returns-in-None : goal.returns-in-None
 returns-in-None c = end_reads c.args.self c.in-None.ensures

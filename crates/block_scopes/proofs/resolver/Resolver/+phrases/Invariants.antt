@@ -1,11 +1,12 @@
 use Rattle.std.proofs.Common.{suc, ◌+◌, map, drop}
 use Rattle.algolw_tree.specs.Grammar.{phrases_of, links_of, lists_of, actuals_of, items_of, decls_of, bounds_of}
-use Rattle.algolw_tree.specs.View.{tree, link_tree, list_tree, actual_tree, item_tree, decl_tree, bound_tree, procedure_tree, optional_tree}
+use Rattle.algolw_tree.specs.View.{tree, link_tree, list_tree, actual_tree, part_tree, item_tree, decl_tree, bound_tree, procedure_tree, optional_tree}
 use Rattle.algolw_typing.specs.Naming.{phrases_naming, links_naming, lists_naming, actuals_naming, items_naming, bounds_naming, decls_naming}
 use Rattle.block_scopes.specs.Adding.{frame_view}
 use Rattle.name_scopes.specs.Paths.{path_view}
 use Rattle.block_scopes.proofs.Added.{Left}
 use Rattle.algolw_tree.proofs.Sizes.{size, size_perhaps, size_phrases, size_links, size_lists, size_listing, size_actuals, size_actual, size_items, size_bounds, size_decls, size_decl}
+use Rattle.block_scopes.proofs.Arms.{size_item}
 use Rattle.block_scopes.proofs.resolver.Resolver.+phrases.Given as goal
 
 abbrev pub decreases-phrase : goal.decreases-phrase
@@ -21,7 +22,10 @@ abbrev pub decreases-conditional : goal.decreases-conditional
 decreases-conditional l = suc (size (tree l.condition.now) + size (tree l.then.now) + size_perhaps (optional_tree l.otherwise.now))
 
 abbrev pub decreases-selection : goal.decreases-selection
-decreases-selection l = suc (size (tree l.subject.now) + size_phrases (phrases_of (map tree l.parts.now)))
+decreases-selection l = suc (size (tree l.subject.now) + size_phrases (phrases_of (map tree l.values.now)))
+
+abbrev pub decreases-choice : goal.decreases-choice
+decreases-choice l = suc (size (tree l.subject.now) + size_phrases (phrases_of (map part_tree l.parts.now)))
 
 abbrev pub decreases-range : goal.decreases-range
 decreases-range l = suc (size (tree l.start.now) + size_perhaps (optional_tree l.step.now) + size (tree l.limit.now))
@@ -50,6 +54,12 @@ decreases-procedure l = size_decl (procedure_tree l.procedure.now)
 abbrev pub decreases-phrases : goal.decreases-phrases
 decreases-phrases l = size_phrases (phrases_of (map tree l.phrases.now))
 
+abbrev pub decreases-parts : goal.decreases-parts
+decreases-parts l = suc (size_phrases (phrases_of (map part_tree l.parts.now)))
+
+abbrev pub decreases-part : goal.decreases-part
+decreases-part l = suc (size (part_tree l.part.now))
+
 abbrev pub decreases-links : goal.decreases-links
 decreases-links l = size_links (links_of (map link_tree l.links.now))
 
@@ -60,7 +70,10 @@ abbrev pub decreases-actuals : goal.decreases-actuals
 decreases-actuals l = size_actuals (actuals_of (map actual_tree l.actuals.now))
 
 abbrev pub decreases-items : goal.decreases-items
-decreases-items l = size_items (items_of (map item_tree l.items.now))
+decreases-items l = suc (size_items (items_of (map item_tree l.items.now)))
+
+abbrev pub decreases-item : goal.decreases-item
+decreases-item l = suc (size_item (item_tree l.item.now))
 
 abbrev pub decreases-bounds : goal.decreases-bounds
 decreases-bounds l = size_bounds (bounds_of (map bound_tree l.bounds.now))
@@ -70,6 +83,9 @@ decreases-decls l = suc (size_decls (decls_of (map decl_tree l.decls.now)))
 
 abbrev pub invariant-phrases-loop-phrase : goal.invariant-phrases-loop-phrase
 invariant-phrases-loop-phrase l = Left (phrases_naming (frame_view l.frame) (path_view l.path) (phrases_of (map tree l.phrases))) (phrases_naming (frame_view l.frame) (path_view l.path) (phrases_of (map tree (drop l.phrase-index l.phrases)))) l.initial.self l.self
+
+abbrev pub invariant-parts-loop-part : goal.invariant-parts-loop-part
+invariant-parts-loop-part l = Left (phrases_naming (frame_view l.frame) (path_view l.path) (phrases_of (map part_tree l.parts))) (phrases_naming (frame_view l.frame) (path_view l.path) (phrases_of (map part_tree (drop l.part-index l.parts)))) l.initial.self l.self
 
 abbrev pub invariant-links-loop-link : goal.invariant-links-loop-link
 invariant-links-loop-link l = Left (links_naming (frame_view l.frame) (path_view l.path) (links_of (map link_tree l.links))) (links_naming (frame_view l.frame) (path_view l.path) (links_of (map link_tree (drop l.link-index l.links)))) l.initial.self l.self

@@ -1,25 +1,32 @@
-use Rattle.std.proofs.Common.{◌≡◌, ◌+◌, ◌∷◌, ◌++◌, suc, List, IfOk, length, map, refl, sym, ap, subst, ◌∙◌, arith, rules}
+use Rattle.std.proofs.Common.{◌≡◌, ℕ, ◌+◌, [], ◌∷◌, ◌++◌, suc, Bool, List, IfOk, length, map, refl, sym, ap, subst, ◌∙◌, arith, rules}
 use Rattle.std.proofs.lemmas.Result.{IfOk-weaker}
 use Rattle.std.specs.Option.{option_map}
+use Rattle.algolw_tree.specs.declared.phrases.Labelled.{out-Labelled}
 use Rattle.algolw_tree.specs.declared.phrases.Phrase.{Phrase}
 use Rattle.algolw_tree.specs.declared.phrases.ProcDecl.{out-ProcDecl}
 use Rattle.algolw_tree.specs.Grammar.{phrases_of, links_of, lists_of, actuals_of, items_of, decls_of, bounds_of}
 use Rattle.algolw_tree.specs.Tree as tree
-use Rattle.algolw_tree.specs.View.{tree as tree_of, link_tree, list_tree, actual_tree, item_tree, decl_tree, bound_tree, formal_tree, procedure_tree, spec_tree}
+use Rattle.algolw_tree.specs.View.{tree as tree_of, empty_tree, part_tree, link_tree, list_tree, actual_tree, item_tree, decl_tree, bound_tree, formal_tree, procedure_tree, spec_tree}
 use Rattle.algolw_typing.specs.Names.{Scope}
 use Rattle.algolw_typing.specs.Scopes.{Known, formal_scope}
+use Rattle.algolw_typing.specs.Types.{Statement}
+use Rattle.algolw_typing.specs.Typed as typed
 use Rattle.algolw_typing.specs.Typing as rules_of
-use Rattle.algolw_typing.specs.Typing.{DeclOut, typed_bounds, typed_decl, typed_decls}
+use Rattle.algolw_typing.specs.Typing.{DeclOut, typed_bounds, typed_decl, typed_decls, typed_phrase}
+use Rattle.algolw_typing.specs.Verdicts.{Good}
 use Rattle.typing_rules.specs.MeaningView.{reading, wanted}
 use Rattle.typing_rules.specs.View as view
 use Rattle.typed_drafts.specs.declared.drafts.DraftDecl.{DraftDecl}
+use Rattle.typed_drafts.specs.DraftView.{draft_view, empty_view, item_view}
 use Rattle.declared_names.specs.Blocks.{DeclFound, bounds_view}
-use Rattle.typed_phrases.specs.FrontViews.{front_view}
+use Rattle.typed_phrases.specs.Found.{found_view}
+use Rattle.typed_phrases.specs.FrontViews.{front_view, given_out}
 use Rattle.declared_names.specs.KnownPaths.{path_view}
 use Rattle.typed_phrases.specs.declared.making.Typed.{Typed}
-use Rattle.phrase_checker.specs.Checked.{DeclsChecked}
+use Rattle.phrase_checker.specs.Checked.{DeclsChecked, end_of}
 use Rattle.phrase_checker.proofs.BlockFound.{block_found, procedure_found}
-use Rattle.phrase_checker.proofs.BlockSteps.{as_many, bounds_step, meanings_step, kept_step, decls_step, decls_end, own_bounds, items_step, last_item}
+use Rattle.phrase_checker.proofs.BlockSteps.{as_many, bounds_step, meanings_step, kept_step, decls_step, decls_end, own_bounds, items_step, last_item, item_checked, empty_end, labelled_is, no_fault, phrase_in, size_item}
+use Rattle.phrase_checker.proofs.CaseSteps.{cases_step, cases_end, case_checked}
 use Rattle.declared_names.proofs.Bounding.{array_found, bounds_kept, procedure_is}
 use Rattle.phrase_checker.proofs.ForSteps.{range_checked, list_checked}
 use Rattle.phrase_checker.proofs.ListSteps as lists
@@ -58,6 +65,21 @@ inside-case_do-requires t c = search (rules, ap size_kind (case_do_at _ c.in-Cas
 pub inside-returns-in-CaseDo : goal.inside-returns-in-CaseDo
 inside-returns-in-CaseDo t c = by_kind c.case_do.result c.args.self.now c.case_do.new.self (path_view c.args.path.now) c.args.phrase.now.place c.args.phrase.now.first _ _ (case_do_at _ c.in-CaseDo.subject c.in-CaseDo.parts _ _ c.in-CaseDo.is c.deref-in-CaseDo.ensures c.deref-in-CaseDo-2.ensures.value) c.case_do.ensures
 
+pub case_do-returns : goal.case_do-returns
+case_do-returns t c = case_checked c.case_do.result c.args.spot.place c.args.spot.first c.args.self.now c.phrase.new.self c.cases.new.self c.in_ok-subject.subject c.in_ok-cases.cases _ _ c.in_ok-subject.ensures c.in_ok-cases.ensures (c.case_do.ensures _ c.in_ok-cases.ensures.found)
+
+pub cases-case-requires : goal.cases-case-requires
+cases-case-requires t c =
+    let h = item_smaller (λ xs. size_phrases (phrases_of (map part_tree xs))) (λ x. size (part_tree x)) (λ x xs. refl) c.args.parts.now c.loop-part.part-index c.part-item.result c.loop-part-test.true c.part-item.is in
+    search rules
+
+pub cases-loop-part-preserved : goal.cases-loop-part-preserved
+cases-loop-part-preserved t c =
+    cases_step (path_view c.args.path.now) _ _ c.args.parts.now c.loop-part.part-index c.part-item.result c.loop-part.self c.case.new.self c.loop-part.found c.case.new.found c.loop-part-test.true c.part-item.is c.in_ok-case.ensures c.loop-part.invariant
+
+pub cases-returns : goal.cases-returns
+cases-returns t c = cases_end (path_view c.args.path.now) c.args.parts.now c.loop-part.part-index c.args.self.now c.loop-part.self c.loop-part.found c.loop-part-test.false c.loop-part.invariant
+
 pub links-phrase-requires : goal.links-phrase-requires
 links-phrase-requires t c =
     let h = item_smaller (λ xs. size_links (links_of (map link_tree xs))) (λ x. size (tree_of x.right)) (λ x xs. refl) c.args.links.now c.loop-link.link-index c.link-item.result c.loop-link-test.true c.link-item.is in
@@ -80,13 +102,15 @@ pub inside-named-requires : goal.inside-named-requires
 inside-named-requires t c = search (rules, ap size_kind (named_at _ c.in-Named.name c.in-Named.lists _ c.in-Named.is c.deref-in-Named.ensures.value))
 
 pub inside-returns-in-Named : goal.inside-returns-in-Named
-inside-returns-in-Named t c = by_kind c.named.result c.args.self.now c.named.new.self (path_view c.args.path.now) c.args.phrase.now.place c.args.phrase.now.first _ _ (named_at _ c.in-Named.name c.in-Named.lists _ c.in-Named.is c.deref-in-Named.ensures.value) c.named.ensures
+inside-returns-in-Named t c = by_kind c.named.result c.args.self.now c.named.new.self (path_view c.args.path.now) c.args.phrase.now.place c.args.phrase.now.first _ _
+    (named_at _ c.in-Named.name c.in-Named.lists _ c.in-Named.is c.deref-in-Named.ensures.value ∙ ap (λ (n : List ℕ). tree.Named n (lists_of (map list_tree c.deref-in-Named.result.now))) (sym c.get-in-Named.ensures)) c.named.ensures
 
 pub inside-for_list-requires : goal.inside-for_list-requires
 inside-for_list-requires t c = search (rules, ap size_kind (for_list_at _ c.in-ForList.name c.in-ForList.values c.in-ForList.body _ _ c.in-ForList.is c.deref-in-ForList.ensures.value c.deref-in-ForList-2.ensures))
 
 pub inside-returns-in-ForList : goal.inside-returns-in-ForList
-inside-returns-in-ForList t c = by_kind c.for_list.result c.args.self.now c.for_list.new.self (path_view c.args.path.now) c.args.phrase.now.place c.args.phrase.now.first _ _ (for_list_at _ c.in-ForList.name c.in-ForList.values c.in-ForList.body _ _ c.in-ForList.is c.deref-in-ForList.ensures.value c.deref-in-ForList-2.ensures) c.for_list.ensures
+inside-returns-in-ForList t c = by_kind c.for_list.result c.args.self.now c.for_list.new.self (path_view c.args.path.now) c.args.phrase.now.place c.args.phrase.now.first _ _
+    (for_list_at _ c.in-ForList.name c.in-ForList.values c.in-ForList.body _ _ c.in-ForList.is c.deref-in-ForList.ensures.value c.deref-in-ForList-2.ensures ∙ ap (λ (n : List ℕ). tree.ForList n (phrases_of (map tree_of c.deref-in-ForList.result.now)) (tree_of c.deref-in-ForList-2.result.now)) (sym c.get-in-ForList.ensures)) c.for_list.ensures
 
 pub inside-block-requires : goal.inside-block-requires
 inside-block-requires t c = search (rules, ap size_kind (block_at _ c.in-Block.decls c.in-Block.items _ _ c.in-Block.is c.deref-in-Block.ensures.value c.deref-in-Block-2.ensures.value))
@@ -121,7 +145,7 @@ bounds-bound-requires t c =
 
 pub items-item-requires : goal.items-item-requires
 items-item-requires t c =
-    let h = item_smaller (λ xs. size_items (items_of (map item_tree xs))) (λ x. size (tree_of x.phrase)) (λ x xs. refl) c.args.items.now c.loop-position.position c.index-items-position.result c.loop-position-test.true c.index-items-position.is in
+    let h = item_smaller (λ xs. size_items (items_of (map item_tree xs))) (λ x. size (phrase_in (item_tree x))) (λ x xs. size_item (item_tree x) (items_of (map item_tree xs))) c.args.items.now c.loop-position.position c.index-items-position.result c.loop-position-test.true c.index-items-position.is in
     search rules
 
 pub range-returns : goal.range-returns
@@ -165,8 +189,13 @@ parts-loop-actual-preserved t c =
 
 pub actual-returns-in_ok-add-in-Phrase : goal.actual-returns-in_ok-add-in-Phrase
 actual-returns-in_ok-add-in-Phrase t c =
-    lists.actual_checked (path_view c.args.path.now) (wanted c.args.wanted) (actual_tree c.args.actual.now) (tree_of c.in-Phrase.phrase) c.args.self.now c.inside.new.self c.note.new.self c.in_ok-typed-in-Phrase.typed c.in_ok-given-in-Phrase.given c.args.found.now c.add.new.self
-    (ap actual_tree c.in-Phrase.is) c.in_ok-typed-in-Phrase.ensures c.in_ok-given-in-Phrase.ensures c.in_ok-note-in-Phrase.ensures c.in_ok-add-in-Phrase.ensures.parts c.in_ok-add-in-Phrase.ensures.drafts
+    let path = path_view c.args.path.now in
+    let found = c.in_ok-typed-in-Phrase.typed in
+    let given = c.in_ok-given-in-Phrase.given in
+    let read : given_out given ≡ rules_of.given path (wanted c.args.wanted) (tree_of c.deref.result.now) (found_view found) =
+    c.in_ok-given-in-Phrase.ensures ∙ ap (λ (x : Phrase). rules_of.given path (wanted c.args.wanted) (tree_of x) (found_view found)) (c.deref-in-Phrase.ensures ∙ sym c.deref.ensures) in
+    lists.actual_checked path (wanted c.args.wanted) (actual_tree c.args.actual.now) (tree_of c.deref.result.now) c.args.self.now c.inside.new.self c.note.new.self found given c.args.found.now c.add.new.self
+    (ap actual_tree c.in-Phrase.is ∙ ap (λ (x : Phrase). tree.Given (tree_of x)) (sym c.deref.ensures)) c.in_ok-typed-in-Phrase.ensures read c.in_ok-note-in-Phrase.ensures c.in_ok-add-in-Phrase.ensures.parts c.in_ok-add-in-Phrase.ensures.drafts
 
 pub block-decls-requires : goal.block-decls-requires
 block-decls-requires t c = (omega arith, as_many _ _ _ c.in_ok-bounds.ensures.bounds)
@@ -234,3 +263,27 @@ pub items-loop-position-preserved : goal.items-loop-position-preserved
 items-loop-position-preserved t c =
     items_step (path_view c.args.path.now) _ _ c.args.items.now c.loop-position.position c.index-items-position.result _ c.loop-position.self c.item.new.self c.loop-position.found c.item.new.found c.loop-position-test.true c.index-items-position.is
     (last_item c.args.items.now c.loop-position.position _ c.loop-position-test.true refl) c.in_ok-item.ensures c.loop-position.invariant
+
+pub item-returns-in-Empty : goal.item-returns-in-Empty
+item-returns-in-Empty t c =
+    let p = c.in-Empty.place in
+    item_checked c.add.result (path_view c.args.path.now) c.args.is_last _ [] (empty_tree p) c.args.self.now c.args.self.now c.args.found.now c.add.new.self (Good Statement) (typed.Labelled [] (empty_view p))
+    (ap item_tree c.in-Empty.is) (empty_end c.args.is_last p) (no_fault c.args.self.now.faults.items) refl c.add.ensures.verdict c.add.ensures.drafts
+
+pub item-returns-in_ok-typed-in-Plain : goal.item-returns-in_ok-typed-in-Plain
+item-returns-in_ok-typed-in-Plain t c =
+    let found = c.in_ok-typed-in-Plain.typed in
+    item_checked c.add-in-Plain.result (path_view c.args.path.now) c.args.is_last _ [] (tree_of c.deref.result.now) c.args.self.now c.item_phrase.new.self c.args.found.now c.add-in-Plain.new.self (view.verdict found.verdict) (typed.Labelled [] (draft_view found.draft.now))
+    (ap item_tree c.in-Plain.is ∙ ap (λ (x : Phrase). tree.Labelled [] (tree_of x)) (sym c.deref.ensures)) c.in_ok-typed-in-Plain.ensures.verdict c.in_ok-typed-in-Plain.ensures.faults (ap (typed.Labelled []) c.in_ok-typed-in-Plain.ensures.node) c.add-in-Plain.ensures.verdict c.add-in-Plain.ensures.drafts
+
+pub labelled_item-returns : goal.labelled_item-returns
+labelled_item-returns t c =
+    let own = out-Labelled c.args.item.now in
+    let found = c.in_ok-typed.typed in
+    let o = typed_phrase (path_view c.args.path.now) (tree_of c.deref.result.now) in
+    item_checked c.add.result (path_view c.args.path.now) c.args.is_last _ own.labels.items (tree_of c.deref.result.now) c.args.self.now c.item_phrase.new.self c.args.found.now c.add.new.self (view.verdict found.verdict) (item_view c.in_ok-item.item)
+    (labelled_is c.args.item.now ∙ ap (λ (x : Phrase). tree.Labelled own.labels.items (tree_of x)) (sym c.deref.ensures)) (c.in_ok-typed.ensures.verdict ∙ ap (λ (l : Bool). end_of c.args.is_last l c.deref.result.now.first o) c.has_labels-is_labelled.ensures)
+    c.in_ok-typed.ensures.faults (c.in_ok-item.ensures ∙ ap (typed.Labelled (rules_of.declare_at own.labels.items)) c.in_ok-typed.ensures.node) c.add.ensures.verdict c.add.ensures.drafts
+
+pub labelled_item-item_phrase-requires : goal.labelled_item-item_phrase-requires
+labelled_item-item_phrase-requires t c = search (rules, ap (λ (y : tree.Item). size (phrase_in y)) (labelled_is c.args.item.now))

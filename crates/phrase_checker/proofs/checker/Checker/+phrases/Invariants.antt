@@ -1,6 +1,6 @@
 use Rattle.std.proofs.Common.{◌≡◌, suc, ◌+◌, ◌*◌, ◌++◌, map, drop}
 use Rattle.algolw_tree.specs.Grammar.{phrases_of, links_of, lists_of, actuals_of, items_of, decls_of, bounds_of}
-use Rattle.algolw_tree.specs.View.{tree, link_tree, list_tree, actual_tree, item_tree, decl_tree, bound_tree, procedure_tree}
+use Rattle.algolw_tree.specs.View.{tree, part_tree, link_tree, list_tree, actual_tree, item_tree, labelled_tree, decl_tree, bound_tree, procedure_tree}
 use Rattle.algolw_typing.specs.Names.{declared}
 use Rattle.algolw_typing.specs.Scopes.{Scopes}
 use Rattle.algolw_typing.specs.Types.{Statement}
@@ -13,14 +13,14 @@ use Rattle.declared_names.specs.Blocks.{bounds_view, each_bounds}
 use Rattle.typed_phrases.specs.FoundParts.{given_view}
 use Rattle.typed_phrases.specs.Fronts.{front_lists}
 use Rattle.typed_phrases.specs.FrontViews.{front_view}
-use Rattle.typed_drafts.specs.DraftView.{draft_view, actual_view, decl_view}
-use Rattle.typed_drafts.specs.DraftParts.{link_view, list_view, item_view, bound_view}
+use Rattle.typed_drafts.specs.DraftView.{draft_view, part_view, link_view, actual_view, item_view, decl_view}
+use Rattle.typed_drafts.specs.DraftParts.{list_view, bound_view}
 use Rattle.declared_names.specs.KnownPaths.{path_view}
 use Rattle.algolw_tree.specs.View.{optional_tree}
-use Rattle.phrase_checker.proofs.BlockSteps.{BoundsSoFar, DeclsSoFar, ItemsSoFar}
+use Rattle.phrase_checker.proofs.BlockSteps.{BoundsSoFar, DeclsSoFar, ItemsSoFar, phrase_in}
 use Rattle.phrase_checker.proofs.ListSteps.{ListsSoFar, PartsSoFar}
 use Rattle.algolw_tree.proofs.Sizes.{size, size_perhaps, size_phrases, size_links, size_lists, size_listing, size_actuals, size_actual, size_items, size_bounds, size_decls, size_decl}
-use Rattle.phrase_checker.proofs.Turns.{PhrasesSoFar, LinksSoFar}
+use Rattle.phrase_checker.proofs.Turns.{PhrasesSoFar, CasesSoFar, LinksSoFar}
 use Rattle.phrase_checker.proofs.checker.Checker.+phrases.Given as goal
 
 abbrev pub decreases-phrase : goal.decreases-phrase
@@ -54,7 +54,18 @@ abbrev pub decreases-case_value : goal.decreases-case_value
 decreases-case_value l = 3 * suc (size (tree l.subject.now) + size_phrases (phrases_of (map tree l.values.now)))
 
 abbrev pub decreases-case_do : goal.decreases-case_do
-decreases-case_do l = 3 * suc (size (tree l.subject.now) + size_phrases (phrases_of (map tree l.parts.now)))
+decreases-case_do l = 3 * suc (size (tree l.subject.now) + size_phrases (phrases_of (map part_tree l.parts.now)))
+
+abbrev pub decreases-cases : goal.decreases-cases
+decreases-cases l = 3 * size_phrases (phrases_of (map part_tree l.parts.now))
+
+abbrev pub decreases-case : goal.decreases-case
+decreases-case l = suc (suc (3 * size (part_tree l.part.now)))
+
+abbrev pub invariant-cases-loop-part : goal.invariant-cases-loop-part
+invariant-cases-loop-part l =
+    CasesSoFar l.initial.self.faults.items l.self.faults.items (given_view l.found.gives) (map part_view l.found.drafts.items) (typed_phrases (path_view l.path) (phrases_of (map part_tree l.parts)))
+    (typed_phrases (path_view l.path) (phrases_of (map part_tree (drop l.part-index l.parts))))
 
 abbrev pub decreases-phrases : goal.decreases-phrases
 decreases-phrases l = 3 * size_phrases (phrases_of (map tree l.phrases.now))
@@ -123,10 +134,16 @@ abbrev pub decreases-procedure : goal.decreases-procedure
 decreases-procedure l = 3 * size_decl (procedure_tree l.declared.now)
 
 abbrev pub decreases-items : goal.decreases-items
-decreases-items l = suc (3 * size_items (items_of (map item_tree l.items.now)))
+decreases-items l = suc (suc (3 * size_items (items_of (map item_tree l.items.now))))
 
 abbrev pub decreases-item : goal.decreases-item
-decreases-item l = 3 * suc (size (tree l.item.now.phrase))
+decreases-item l = suc (3 * suc (size (phrase_in (item_tree l.item.now))))
+
+abbrev pub decreases-labelled_item : goal.decreases-labelled_item
+decreases-labelled_item l = 3 * suc (size (phrase_in (labelled_tree l.item.now)))
+
+abbrev pub decreases-item_phrase : goal.decreases-item_phrase
+decreases-item_phrase l = suc (suc (3 * size (tree l.phrase.now)))
 
 abbrev pub invariant-named-loop-list : goal.invariant-named-loop-list
 invariant-named-loop-list l =

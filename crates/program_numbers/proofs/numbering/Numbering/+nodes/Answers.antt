@@ -1,17 +1,18 @@
 use Rattle.std.proofs.Common.{◌+◌, suc, map, refl, ap, subst, rules}
 use Rattle.algolw_typing.specs.Typed as typed
 use Rattle.algolw_typing.specs.ProgramView as program
-use Rattle.typed_drafts.specs.DraftView.{draft_view, kind_view, actual_view, decl_view}
-use Rattle.typed_drafts.specs.DraftParts.{link_view, list_view, item_view, bound_view}
+use Rattle.typed_drafts.specs.DraftView.{draft_view, kind_view, link_view, part_view, actual_view, item_view, decl_view}
+use Rattle.typed_drafts.specs.DraftParts.{list_view, bound_view}
 use Rattle.typed_drafts.specs.Onto.{nodes_onto, links_onto, lists_onto, actuals_onto, items_onto, bounds_onto, decls_onto}
-use Rattle.typed_drafts.proofs.DraftSizes.{size, size_kind, size_nodes, size_links, size_lists, size_listing, size_actuals, size_actual, size_items, size_bounds, size_decls, size_decl, item_smaller}
-use Rattle.typed_drafts.proofs.KindRows.{named_at, chain_at, case_value_at, case_do_at, for_list_at, block_at, actuals_at, array_at}
+use Rattle.typed_drafts.proofs.DraftSizes.{size, size_kind, size_nodes, size_parts, size_link, size_links, size_lists, size_listing, size_actuals, size_actual, size_items, size_item, size_bounds, size_decls, size_decl, item_smaller}
+use Rattle.typed_drafts.proofs.KindRows.{named_at, chain_at, case_value_at, case_do_at, for_list_at, block_at, actuals_at, array_at, labelled_at, link_at}
+use Rattle.typed_drafts.specs.declared.drafts.DraftLink.{out-DraftLink}
 use Rattle.typed_drafts.specs.declared.drafts.DraftProc.{out-DraftProc}
 use Rattle.program_numbers.proofs.ProcedureParts.{procedure_at}
 use Rattle.program_numbers.specs.Numbered.{NodeNumbered, KindNumbered, NodesNumbered, LinksNumbered, LinkNumbered, ListsNumbered, ListingNumbered, ActualsNumbered, ActualNumbered, ItemsNumbered, ItemNumbered, BoundsNumbered, BoundNumbered, DeclsNumbered, DeclNumbered}
-use Rattle.program_numbers.specs.ProgramParts.{link_in, list_in, item_in, bound_in}
+use Rattle.program_numbers.specs.ProgramParts.{link_in, list_in, bound_in}
 use Rattle.program_numbers.proofs.Making.{makes_of, makes_as, makes_same, made_two, turn, finish, part_has}
-use Rattle.program_numbers.proofs.NodeMaking.{node_made, named_made, chain_made, if_made, case_value_made, case_do_made, for_step_made, for_list_made, block_made, actuals_made, array_made, procedure_made, item_made}
+use Rattle.program_numbers.proofs.NodeMaking.{node_made, named_made, chain_made, if_made, case_value_made, case_do_made, for_step_made, for_list_made, block_made, actuals_made, array_made, procedure_made, labelled_made}
 use Rattle.program_numbers.proofs.numbering.Numbering.+nodes.Goals as goal
 
 pub nodes-node-requires : goal.nodes-node-requires
@@ -26,14 +27,27 @@ nodes-loop-draft-preserved t c = turn c.args.self.now c.args.table.now c.loop-dr
 pub nodes-returns : goal.nodes-returns
 nodes-returns t c = finish c.args.self.now c.args.table.now c.loop-draft.table program.node_view draft_view c.args.drafts.now c.loop-draft.draft-index c.loop-draft.made.items c.loop-draft-test.false c.loop-draft.invariant
 
-pub links-node-requires : goal.links-node-requires
-links-node-requires t c =
-    let h = item_smaller (λ xs. size_links (links_onto (map link_view xs) typed.no_links)) (λ x. size (draft_view x.right)) (λ x xs. refl) c.args.links.now c.loop-link.link-index c.link-item.result c.loop-link-test.true c.link-item.is in
-    let known : LinkNumbered c.args.self.now (link_view c.link-item.result) = part_has (λ xs. LinksNumbered c.args.self.now (links_onto (map link_view xs) typed.no_links)) (λ x. LinkNumbered c.args.self.now (link_view x)) (λ x xs h. (h.0, h.1)) c.args.links.now c.loop-link.link-index c.link-item.result c.loop-link-test.true c.link-item.is c.requires in
+pub parts-part-requires : goal.parts-part-requires
+parts-part-requires t c =
+    let h = item_smaller (λ xs. size_parts (nodes_onto (map part_view xs) typed.no_nodes)) (λ x. suc (size (part_view x))) (λ x xs. refl) c.args.parts.now c.loop-part.part-index c.part-item.result c.loop-part-test.true c.part-item.is in
+    let known : NodeNumbered c.args.self.now (part_view c.part-item.result) = part_has (λ xs. NodesNumbered c.args.self.now (nodes_onto (map part_view xs) typed.no_nodes)) (λ x. NodeNumbered c.args.self.now (part_view x)) (λ x xs h. (h.0, h.1)) c.args.parts.now c.loop-part.part-index c.part-item.result c.loop-part-test.true c.part-item.is c.requires in
     search rules
 
+pub parts-loop-part-preserved : goal.parts-loop-part-preserved
+parts-loop-part-preserved t c = turn c.args.self.now c.args.table.now c.loop-part.table _ program.part_view part_view c.args.parts.now c.loop-part.part-index c.part-item.result c.loop-part.made.items c.push.new.self.items _ c.loop-part-test.true c.part-item.is c.loop-part.invariant c.in_ok-next.ensures c.in_ok-push.ensures.items
+
+pub parts-returns : goal.parts-returns
+parts-returns t c = finish c.args.self.now c.args.table.now c.loop-part.table program.part_view part_view c.args.parts.now c.loop-part.part-index c.loop-part.made.items c.loop-part-test.false c.loop-part.invariant
+
+pub links-node-requires : goal.links-node-requires
+links-node-requires t c =
+    let h = item_smaller (λ xs. size_links (links_onto (map link_view xs) typed.no_links)) (λ x. size_link (link_view x)) (λ x xs. refl) c.args.links.now c.loop-link.link-index c.link-item.result c.loop-link-test.true c.link-item.is in
+    let known : LinkNumbered c.args.self.now (link_view c.link-item.result) = part_has (λ xs. LinksNumbered c.args.self.now (links_onto (map link_view xs) typed.no_links)) (λ x. LinkNumbered c.args.self.now (link_view x)) (λ x xs h. (h.0, h.1)) c.args.links.now c.loop-link.link-index c.link-item.result c.loop-link-test.true c.link-item.is c.requires in
+    let right : NodeNumbered c.args.self.now (draft_view (out-DraftLink c.link-item.result).right.now) = subst (LinkNumbered c.args.self.now) (link_at c.link-item.result) known in
+    search (rules, ap size_link (link_at c.link-item.result))
+
 pub links-loop-link-preserved : goal.links-loop-link-preserved
-links-loop-link-preserved t c = turn c.args.self.now c.args.table.now c.loop-link.table _ link_in link_view c.args.links.now c.loop-link.link-index c.link-item.result c.loop-link.made.items c.push.new.self.items _ c.loop-link-test.true c.link-item.is c.loop-link.invariant (makes_of _ _ _ _ _ (typed.Linked c.link-item.result.op c.link-item.result.place) (λ ns. link_in ns _) (link_view c.link-item.result) (λ sets. refl) refl c.in_ok-right.ensures) c.in_ok-push.ensures.items
+links-loop-link-preserved t c = turn c.args.self.now c.args.table.now c.loop-link.table _ link_in link_view c.args.links.now c.loop-link.link-index c.link-item.result c.loop-link.made.items c.push.new.self.items _ c.loop-link-test.true c.link-item.is c.loop-link.invariant (makes_of _ _ _ _ _ (typed.Linked (out-DraftLink c.link-item.result).op (out-DraftLink c.link-item.result).place) (λ ns. link_in ns _) (link_view c.link-item.result) (λ sets. refl) (link_at c.link-item.result) c.in_ok-right.ensures) c.in_ok-push.ensures.items
 
 pub links-returns : goal.links-returns
 links-returns t c = finish c.args.self.now c.args.table.now c.loop-link.table link_in link_view c.args.links.now c.loop-link.link-index c.loop-link.made.items c.loop-link-test.false c.loop-link.invariant
@@ -62,20 +76,14 @@ actuals-loop-actual-preserved t c = turn c.args.self.now c.args.table.now c.loop
 pub actuals-returns : goal.actuals-returns
 actuals-returns t c = finish c.args.self.now c.args.table.now c.loop-actual.table program.actual_view actual_view c.args.actuals.now c.loop-actual.actual-index c.loop-actual.made.items c.loop-actual-test.false c.loop-actual.invariant
 
-pub items-targets-requires : goal.items-targets-requires
-items-targets-requires t c =
-    let h = item_smaller (λ xs. size_items (items_onto (map item_view xs) typed.no_items)) (λ x. size (draft_view x.phrase)) (λ x xs. refl) c.args.items.now c.loop-item.item-index c.item-item.result c.loop-item-test.true c.item-item.is in
-    let known : ItemNumbered c.args.self.now (item_view c.item-item.result) = part_has (λ xs. ItemsNumbered c.args.self.now (items_onto (map item_view xs) typed.no_items)) (λ x. ItemNumbered c.args.self.now (item_view x)) (λ x xs h. (h.0, h.1)) c.args.items.now c.loop-item.item-index c.item-item.result c.loop-item-test.true c.item-item.is c.requires in
-    search rules
-
-pub items-node-requires : goal.items-node-requires
-items-node-requires t c =
-    let h = item_smaller (λ xs. size_items (items_onto (map item_view xs) typed.no_items)) (λ x. size (draft_view x.phrase)) (λ x xs. refl) c.args.items.now c.loop-item.item-index c.item-item.result c.loop-item-test.true c.item-item.is in
+pub items-item-requires : goal.items-item-requires
+items-item-requires t c =
+    let h = item_smaller (λ xs. size_items (items_onto (map item_view xs) typed.no_items)) (λ x. size_item (item_view x)) (λ x xs. refl) c.args.items.now c.loop-item.item-index c.item-item.result c.loop-item-test.true c.item-item.is in
     let known : ItemNumbered c.args.self.now (item_view c.item-item.result) = part_has (λ xs. ItemsNumbered c.args.self.now (items_onto (map item_view xs) typed.no_items)) (λ x. ItemNumbered c.args.self.now (item_view x)) (λ x xs h. (h.0, h.1)) c.args.items.now c.loop-item.item-index c.item-item.result c.loop-item-test.true c.item-item.is c.requires in
     search rules
 
 pub items-returns : goal.items-returns
-items-returns t c = finish c.args.self.now c.args.table.now c.loop-item.table item_in item_view c.args.items.now c.loop-item.item-index c.loop-item.made.items c.loop-item-test.false c.loop-item.invariant
+items-returns t c = finish c.args.self.now c.args.table.now c.loop-item.table program.item_view item_view c.args.items.now c.loop-item.item-index c.loop-item.made.items c.loop-item-test.false c.loop-item.invariant
 
 pub bounds-node-requires : goal.bounds-node-requires
 bounds-node-requires t c =
@@ -216,7 +224,23 @@ pub decl-returns-in_ok-bounds-in-Array : goal.decl-returns-in_ok-bounds-in-Array
 decl-returns-in_ok-bounds-in-Array t c = makes_as c.args.self.now _ _ _ _ _ (array_at _ c.in-Array.of c.in-Array.names c.in-Array.bounds c.in-Array.is) (array_made c.args.self.now _ _ _ _ c.in_ok-names-in-Array.names c.in_ok-bounds-in-Array.bounds _ _ _ c.in_ok-names-in-Array.ensures c.in_ok-of-in-Array.ensures c.in_ok-bounds-in-Array.ensures)
 
 pub items-loop-item-preserved : goal.items-loop-item-preserved
-items-loop-item-preserved t c = turn c.args.self.now c.args.table.now c.loop-item.table _ item_in item_view c.args.items.now c.loop-item.item-index c.item-item.result c.loop-item.made.items c.push.new.self.items (record { labels = c.in_ok-labels.labels; phrase = c.in_ok-phrase.phrase }) c.loop-item-test.true c.item-item.is c.loop-item.invariant (item_made c.args.self.now _ _ c.in_ok-labels.labels _ _ _ c.in_ok-labels.ensures c.in_ok-phrase.ensures) c.in_ok-push.ensures.items
+items-loop-item-preserved t c = turn c.args.self.now c.args.table.now c.loop-item.table _ program.item_view item_view c.args.items.now c.loop-item.item-index c.item-item.result c.loop-item.made.items c.push.new.self.items _ c.loop-item-test.true c.item-item.is c.loop-item.invariant c.in_ok-next.ensures c.in_ok-push.ensures.items
+
+pub labelled-targets-requires : goal.labelled-targets-requires
+labelled-targets-requires t c =
+    let known = subst (ItemNumbered c.args.self.now) (labelled_at c.args.labelled.now) c.requires in
+    search rules
+
+pub labelled-node-requires : goal.labelled-node-requires
+labelled-node-requires t c =
+    let at = labelled_at c.args.labelled.now in
+    let known = subst (ItemNumbered c.args.self.now) at c.requires in
+    search (rules, ap size_item at)
+
+pub labelled-returns : goal.labelled-returns
+labelled-returns t c =
+    makes_as c.args.self.now _ _ _ _ _ (labelled_at c.args.labelled.now)
+    (labelled_made c.args.self.now _ _ c.in_ok-labels.labels _ c.in_ok-phrase.phrase c.in_ok-item.item _ _ c.in_ok-labels.ensures c.in_ok-node.ensures c.in_ok-phrase.ensures.ok c.in_ok-item.ensures.ok)
 
 pub procedure-returns : goal.procedure-returns
 procedure-returns t c =
