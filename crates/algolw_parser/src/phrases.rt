@@ -9,8 +9,8 @@ ghost use Rattle.token_reader.specs.Gives.{Gives, boxed_tree, read_behind, read_
 ghost use Rattle.token_reader.specs.Levels.{read_first, read_operand, read_links_at, read_chain_at};
 
 use algolw_tree::{
-    Actual, Bound, Decl, Item, Kind, Labelled, Link, List, ListKind, Part, Phrase, ProcDecl,
-    Spelling, Symbol, TypeSpec, Word,
+    Actual, Bound, ClassTest, Decl, Item, Kind, Labelled, Link, List, ListKind, Part, Phrase,
+    ProcDecl, Symbol, TypeSpec, Word,
 };
 use token_reader::{Level, Parser, Stop, inside, make};
 
@@ -86,17 +86,11 @@ fn conditional(parser: &mut Parser<'_>, room: u32) -> Result<Box<Phrase>, Stop>
     parser.expect_word(Word::Then)?;
     let then = perhaps(parser, room)?;
     if !parser.at_else() {
-        return Ok(Box::new(
-            parser.alloc,
-            make::at(place, Kind::IfThen(condition, then, None)),
-        )?);
+        return Ok(make::conditional(parser.alloc, place, condition, then, None)?);
     }
     parser.expect_word(Word::Else)?;
     let otherwise = perhaps(parser, room)?;
-    Ok(Box::new(
-        parser.alloc,
-        make::at(place, Kind::IfThen(condition, then, Some(otherwise))),
-    )?)
+    Ok(make::conditional(parser.alloc, place, condition, then, Some(otherwise))?)
 }
 
 /// `CASE phrase OF ( "(" phrase { "," phrase } ")" | BEGIN [ phrase ] { ";" [ phrase ] } END )`
@@ -106,20 +100,20 @@ fn selection(parser: &mut Parser<'_>, room: u32) -> Result<Box<Phrase>, Stop>
     ensures { Gives boxed_tree result parser.new.rest.now (read_case (readers room) parser.old.rest.now) }
 {
     let place = parser.expect_word(Word::Case)?;
-    let subject = phrase(parser, room)?;
+    let selector = phrase(parser, room)?;
     parser.expect_word(Word::Of)?;
     if parser.at_symbol(Symbol::Open) {
         parser.expect_symbol(Symbol::Open)?;
         let first = unboxed(parser, room)?;
         let values = later_phrases(parser, first, room)?;
         parser.expect_symbol(Symbol::Close)?;
-        Ok(Box::new(parser.alloc, make::case_value(place, subject, values))?)
+        Ok(make::case_value(parser.alloc, place, selector, values)?)
     } else {
         parser.expect_word(Word::Begin)?;
         let first = part(parser, room)?;
         let parts = later_parts(parser, first, room)?;
         parser.expect_word(Word::End)?;
-        Ok(Box::new(parser.alloc, make::case_do(place, subject, parts))?)
+        Ok(make::case_do(parser.alloc, place, selector, parts)?)
     }
 }
 
@@ -163,16 +157,14 @@ fn iteration(parser: &mut Parser<'_>, room: u32) -> Result<Box<Phrase>, Stop>
 {
     let place = parser.expect_word(Word::For)?;
     let name = parser.expect_name()?;
-    let control = Spelling::new(parser.alloc, name.0)?;
     parser.expect_symbol(Symbol::Becomes)?;
-    let start = unboxed(parser, room)?;
+    let start = phrase(parser, room)?;
     if parser.at_values() {
-        let values = later_phrases(parser, start, room)?;
+        let values = later_phrases(parser, Box::into_inner(start), room)?;
         parser.expect_word(Word::Do)?;
         let body = perhaps(parser, room)?;
-        return Ok(Box::new(parser.alloc, make::for_list(place, control, values, body))?);
+        return Ok(make::for_list(parser.alloc, place, name, values, body)?);
     }
-    let start = Box::new(parser.alloc, start)?;
     if parser.at_word(Word::Step) {
         parser.expect_word(Word::Step)?;
         let step = phrase(parser, room)?;
@@ -180,15 +172,15 @@ fn iteration(parser: &mut Parser<'_>, room: u32) -> Result<Box<Phrase>, Stop>
         let limit = phrase(parser, room)?;
         parser.expect_word(Word::Do)?;
         let body = perhaps(parser, room)?;
-        let kind = Kind::ForStep(control, start, Some(step), limit, body);
-        Ok(Box::new(parser.alloc, make::at(place, kind))?)
+        let start = Box::into_inner(start);
+        Ok(make::for_step(parser.alloc, place, name, start, Some(step), limit, body)?)
     } else {
         parser.expect_word(Word::Until)?;
         let limit = phrase(parser, room)?;
         parser.expect_word(Word::Do)?;
         let body = perhaps(parser, room)?;
-        let kind = Kind::ForStep(control, start, None, limit, body);
-        Ok(Box::new(parser.alloc, make::at(place, kind))?)
+        let start = Box::into_inner(start);
+        Ok(make::for_step(parser.alloc, place, name, start, None, limit, body)?)
     }
 }
 
@@ -289,7 +281,7 @@ fn links(parser: &mut Parser<'_>, level: Level, room: u32) -> Result<Vec<Link>, 
     ensures { Gives (λ x. map link_tree x.items) result parser.new.rest.now
         (read_links_at level (readers room) parser.old.rest.now) }
 {
-    let mut links = Vec::new(parser.alloc);
+    let mut links = Vec::with_capacity(parser.alloc, 1)?;
     'turns: while parser.at_operator(level) {
         let (op, place) = parser.operator(level)?;
         let right = operand(parser, level, room)?;
@@ -326,8 +318,9 @@ fn relation(parser: &mut Parser<'_>, room: u32) -> Result<Box<Phrase>, Stop>
     if parser.at_word(Word::Is) {
         let place = parser.expect_word(Word::Is)?;
         let class = parser.expect_name()?;
-        let name = Spelling::new(parser.alloc, class.0)?;
-        let kind = Kind::IsClass(left, name, class.1);
+        let reference = Box::into_inner(left);
+        let test = Box::new(parser.alloc, ClassTest { reference, class })?;
+        let kind = Kind::IsClass(test);
         Ok(Box::new(parser.alloc, Phrase { place, first, kind })?)
     } else if parser.at_comparison() {
         let (op, place) = parser.comparison()?;
@@ -362,7 +355,7 @@ fn primary(parser: &mut Parser<'_>, room: u32) -> Result<Box<Phrase>, Stop>
     } else if parser.at_name() {
         let name = parser.expect_name()?;
         let lists = lists(parser, room)?;
-        Ok(Box::new(parser.alloc, make::named(parser.alloc, name, lists)?)?)
+        Ok(make::named(parser.alloc, name, lists)?)
     } else {
         Ok(Box::new(parser.alloc, parser.literal()?)?)
     }
@@ -374,7 +367,9 @@ fn lists(parser: &mut Parser<'_>, room: u32) -> Result<Vec<List>, Stop>
     ensures { Gives (λ x. map list_tree x.items) result parser.new.rest.now
         (read_lists (readers room) parser.old.rest.now) }
 {
-    let mut lists = Vec::new(parser.alloc);
+    // Where there is one, there are mostly no more.
+    let some = parser.at_symbol(Symbol::Open);
+    let mut lists = Vec::with_capacity(parser.alloc, usize::from(some))?;
     'turns: while parser.at_symbol(Symbol::Open) {
         let one = listing(parser, room)?;
         lists.push(one)?;
@@ -405,7 +400,7 @@ fn listing(parser: &mut Parser<'_>, room: u32) -> Result<List, Stop>
             kind: ListKind::Part(first, length.0),
         })
     } else {
-        let actuals = later_actuals(parser, Actual::Phrase(first), room)?;
+        let actuals = later_actuals(parser, Actual::Phrase(Box::into_inner(first)), room)?;
         parser.expect_symbol(Symbol::Close)?;
         Ok(make::actuals(place, actuals))
     }
@@ -417,7 +412,7 @@ fn later_actuals(parser: &mut Parser<'_>, first: Actual, room: u32) -> Result<Ve
     ensures { Gives (λ x. map actual_tree x.items) result parser.new.rest.now
         (read_behind (actual_tree first) Comma (read_actual (readers room)) parser.old.rest.now) }
 {
-    let mut actuals = Vec::new(parser.alloc);
+    let mut actuals = Vec::with_capacity(parser.alloc, 1)?;
     actuals.push(first)?;
     'turns: while parser.at_symbol(Symbol::Comma) {
         parser.expect_symbol(Symbol::Comma)?;
@@ -436,7 +431,7 @@ fn actual(parser: &mut Parser<'_>, room: u32) -> Result<Actual, Stop>
     if parser.at_symbol(Symbol::Star) {
         Ok(Actual::Star(parser.expect_symbol(Symbol::Star)?))
     } else {
-        Ok(Actual::Phrase(phrase(parser, room)?))
+        Ok(Actual::Phrase(unboxed(parser, room)?))
     }
 }
 
@@ -451,7 +446,7 @@ pub fn block(parser: &mut Parser<'_>, room: u32) -> Result<Box<Phrase>, Stop>
     let first = item(parser, room)?;
     let items = later_items(parser, first, room)?;
     parser.expect_word(Word::End)?;
-    Ok(Box::new(parser.alloc, make::block(place, decls, items))?)
+    Ok(make::block(parser.alloc, place, decls, items)?)
 }
 
 /// `{ ";" item }`, behind the first item.
@@ -569,7 +564,7 @@ fn later_bounds(parser: &mut Parser<'_>, first: Bound, room: u32) -> Result<Vec<
     ensures { Gives (λ x. map bound_tree x.items) result parser.new.rest.now
         (read_behind (bound_tree first) Comma (read_bound (readers room)) parser.old.rest.now) }
 {
-    let mut bounds = Vec::new(parser.alloc);
+    let mut bounds = Vec::with_capacity(parser.alloc, 1)?;
     bounds.push(first)?;
     'turns: while parser.at_symbol(Symbol::Comma) {
         parser.expect_symbol(Symbol::Comma)?;

@@ -81,7 +81,7 @@ fn name_front<'a>(
     let name = folded(spelled);
     match word(name.as_slice()) {
         None => {
-            *kind = TokenKind::Named(Spelling::new(alloc, name)?);
+            *kind = TokenKind::Named(Spelling::new(alloc, &name)?);
             Ok(Lexeme::Token(rest))
         }
         Some(Word::Comment) => Ok(Lexeme::Comment(rest)),
@@ -246,7 +246,7 @@ fn quoted_front<'a>(
                 _ => Ok(Lexeme::Fault(Diagnostic::STRING_EMPTY)),
             },
             _ => {
-                *kind = TokenKind::Quoted(Spelling::new(alloc, said)?);
+                *kind = TokenKind::Quoted(Spelling::new(alloc, &said)?);
                 Ok(Lexeme::Token(rest))
             }
         },

@@ -14,8 +14,9 @@ use algolw_tree::{Token, TokenKind, Word};
 use std::alloc::{AllocError, Global};
 use value_ops::{Card, Diagnostic, Place};
 
-/// For how many tokens there is room from the first on.
-const FEW_TOKENS: usize = 64;
+/// For how many tokens of a card there is room from the first on. Doubled four times it is as many as a card has characters,
+/// so that the room that a vector of tokens grows to is no more than the most tokens of the cards take.
+const TOKENS_OF_CARD: usize = 5;
 
 /// What scanning a deck gives.
 #[derive(Drop)]
@@ -56,7 +57,8 @@ fn tokens_from(alloc: Global, start: Cursor) -> Result<Scanned, AllocError>
     requires { Sound start }
     ensures { IfOk result (λ s. Says start.entry.place (text_at start.entry) s) }
 {
-    let mut tokens = Vec::with_capacity(alloc, FEW_TOKENS)?;
+    let cards = 1 + start.later.len();
+    let mut tokens = Vec::with_capacity(alloc, 1 + TOKENS_OF_CARD * cards)?;
     let mut after_end = false;
     let mut cursor = start;
     'pieces: loop {

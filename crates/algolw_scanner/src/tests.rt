@@ -58,13 +58,13 @@ fn shown(alloc: Global, kind: &TokenKind) -> Result<String, Fail> {
             Ok(String::from_str(alloc, entry.map_or("?", |entry| entry.0))?)
         }
         TokenKind::Named(name) => {
-            let name = String::from_utf8_lossy(alloc, name.get().as_slice())?;
+            let name = String::from_utf8_lossy(alloc, name.as_slice())?;
             Ok(format!(in alloc; "'{name}")?)
         }
         TokenKind::Number(number) => Ok(format!(in alloc; "{number}")?),
         TokenKind::BitsLit(bits) => Ok(format!(in alloc; "#{bits:X}")?),
         TokenKind::Quoted(text) => {
-            let text = String::from_utf8_lossy(alloc, text.get().as_slice())?;
+            let text = String::from_utf8_lossy(alloc, text.as_slice())?;
             Ok(format!(in alloc; "\"{text}\"")?)
         }
         TokenKind::Symbol(symbol) => Ok(String::from_str(alloc, spelled(*symbol))?),

@@ -1,5 +1,5 @@
 -- What a tree has in its rows, read at the vectors' items.
-use Rattle.std.proofs.Common.{◌≡◌, ℕ, List, Option, Some, None, map, refl, sym, ap, ◌∙◌}
+use Rattle.std.proofs.Common.{◌≡◌, ℕ, List, map, refl, sym, ap, ◌∙◌}
 use Rattle.std.specs.declared.vec.Vec.{Vec}
 use Rattle.std.specs.declared.alloc.Global.{Global}
 use Rattle.std.specs.declared.boxed.Box.{Box}
@@ -10,15 +10,24 @@ use Rattle.algolw_tree.specs.declared.phrases.Part.{Part}
 use Rattle.algolw_tree.specs.declared.phrases.Item.{Item}
 use Rattle.algolw_tree.specs.declared.phrases.Actual.{Actual}
 use Rattle.algolw_tree.specs.declared.phrases.Bound.{Bound}
-use Rattle.algolw_tree.specs.declared.phrases.Actual.TheBlock.{hidden-the_row-Bound-0, hidden-the_row-List-1, hidden-the_row-Link-2, hidden-the_row-Phrase-3, hidden-the_row-Part-4, hidden-the_row-Decl-5, hidden-the_row-Item-6, hidden-the_row-Actual-7, items_hidden-the_row-Bound-0, items_hidden-the_row-List-1, items_hidden-the_row-Link-2, items_hidden-the_row-Phrase-3, items_hidden-the_row-Part-4, items_hidden-the_row-Decl-5, items_hidden-the_row-Item-6, items_hidden-the_row-Actual-7}
-use Rattle.algolw_tree.specs.declared.phrases.Kind.{Kind, Named, Chain, CaseValue, CaseDo, ForStep, ForList, Block, Row_of-Link, end_of-Link, more_of-Link, items-the_row-Link, Row_of-List, end_of-List, more_of-List, items-the_row-List, Row_of-Phrase, end_of-Phrase, more_of-Phrase, items-the_row-Phrase, Row_of-Part, end_of-Part, more_of-Part, items-the_row-Part, Row_of-Item, end_of-Item, more_of-Item, items-the_row-Item, Row_of-Decl, end_of-Decl, more_of-Decl, items-the_row-Decl}
+use Rattle.algolw_tree.specs.declared.phrases.Actual.TheBlock.{hidden-the_row-Bound-0, hidden-the_row-List-7, hidden-the_row-Link-6, hidden-the_row-Phrase-5, hidden-the_row-Part-1, hidden-the_row-Decl-2, hidden-the_row-Item-3, hidden-the_row-Actual-4, items_hidden-the_row-Bound-0, items_hidden-the_row-List-7, items_hidden-the_row-Link-6, items_hidden-the_row-Phrase-5, items_hidden-the_row-Part-1, items_hidden-the_row-Decl-2, items_hidden-the_row-Item-3, items_hidden-the_row-Actual-4}
+use Rattle.algolw_tree.specs.declared.phrases.Kind.{Kind, Listed as a_listed, Chain as a_chain, IsClass, IfThen, CaseValue as a_case_value, CaseDo as a_case_do, ForStep as a_for_step, ForList as a_for_list, Block as a_block}
+use Rattle.algolw_tree.specs.declared.phrases.Listed.{Listed, out-Listed, roll-Listed, roll-out-Listed, Row_of-List, end_of-List, more_of-List, items-the_row-List}
+use Rattle.algolw_tree.specs.declared.phrases.Chain.{Chain, out-Chain, roll-Chain, roll-out-Chain, Row_of-Link, end_of-Link, more_of-Link, items-the_row-Link}
+use Rattle.algolw_tree.specs.declared.phrases.Conditional.{Conditional, Conditional', out-Conditional, Some', None'}
+use Rattle.algolw_tree.specs.declared.phrases.CaseValue.{CaseValue, out-CaseValue, roll-CaseValue, roll-out-CaseValue, Row_of-Phrase, end_of-Phrase, more_of-Phrase, items-the_row-Phrase}
+use Rattle.algolw_tree.specs.declared.phrases.CaseDo.{CaseDo, Row_of-Part, end_of-Part, more_of-Part, items-the_row-Part}
+use Rattle.algolw_tree.specs.declared.phrases.ClassTest.{ClassTest}
+use Rattle.algolw_tree.specs.declared.phrases.ForStep.{ForStep, ForStep', out-ForStep}
+use Rattle.algolw_tree.specs.declared.phrases.ForList.{ForList, out-ForList, roll-ForList, roll-out-ForList}
+use Rattle.algolw_tree.specs.declared.phrases.Block.{Block, Row_of-Item, end_of-Item, more_of-Item, items-the_row-Item, Row_of-Decl, end_of-Decl, more_of-Decl, items-the_row-Decl}
 use Rattle.algolw_tree.specs.declared.phrases.ListKind.{ListKind, Actuals, Row_of-Actual, end_of-Actual, more_of-Actual, items-the_row-Actual}
 use Rattle.algolw_tree.specs.declared.phrases.Decl.{Decl, Array, Row_of-Bound, end_of-Bound, more_of-Bound, items-the_row-Bound}
 use Rattle.algolw_tree.specs.Tree as Tree
 use Rattle.value_ops.specs.declared.places.Place.{Place}
 use Rattle.algolw_tree.specs.declared.phrases.TypeSpec.{TypeSpec}
 use Rattle.algolw_tree.specs.Grammar.{phrases_of, links_of, lists_of, actuals_of, items_of, decls_of, bounds_of}
-use Rattle.algolw_tree.specs.View.{tree, kind_tree, spec_tree, phrases_tree, links_tree, lists_tree, listing_tree, actuals_tree, parts_tree, items_tree, decls_tree, bounds_tree, link_tree, list_tree, actual_tree, part_tree, item_tree, decl_tree, bound_tree, optional_tree}
+use Rattle.algolw_tree.specs.View.{tree, kind_tree, spec_tree, phrases_tree, links_tree, lists_tree, listing_tree, actuals_tree, parts_tree, items_tree, decls_tree, bounds_tree, link_tree, list_tree, actual_tree, part_tree, item_tree, decl_tree, bound_tree, optional_tree, listed_tree, chain_tree, conditional_tree, case_value_tree, for_step_tree, for_list_tree, class_test_tree, case_do_tree, block_tree}
 
 pub phrases_row : (n : _) (r : Row_of-Phrase n) → phrases_tree r ≡ phrases_of (map tree (items-the_row-Phrase n r))
 phrases_row n end_of-Phrase = refl
@@ -53,60 +62,86 @@ bounds_row n end_of-Bound = refl
 bounds_row n (more_of-Bound place lower_place lower_first lower upper_place upper_first upper r) =
     ap (Tree.bound_and (Tree.Between place (Tree.At lower_place lower_first (kind_tree lower)) (Tree.At upper_place upper_first (kind_tree upper)))) (bounds_row _ r)
 
-pub vec_phrases : (v : Vec Phrase Global) → phrases_tree (hidden-the_row-Phrase-3 v) ≡ phrases_of (map tree v.items)
-vec_phrases v = phrases_row _ (hidden-the_row-Phrase-3 v) ∙ ap (λ xs. phrases_of (map tree xs)) (items_hidden-the_row-Phrase-3 v)
+pub vec_phrases : (v : Vec Phrase Global) → phrases_tree (hidden-the_row-Phrase-5 v) ≡ phrases_of (map tree v.items)
+vec_phrases v = phrases_row _ (hidden-the_row-Phrase-5 v) ∙ ap (λ xs. phrases_of (map tree xs)) (items_hidden-the_row-Phrase-5 v)
 
-pub vec_links : (v : Vec Link Global) → links_tree (hidden-the_row-Link-2 v) ≡ links_of (map link_tree v.items)
-vec_links v = links_row _ (hidden-the_row-Link-2 v) ∙ ap (λ xs. links_of (map link_tree xs)) (items_hidden-the_row-Link-2 v)
+pub vec_links : (v : Vec Link Global) → links_tree (hidden-the_row-Link-6 v) ≡ links_of (map link_tree v.items)
+vec_links v = links_row _ (hidden-the_row-Link-6 v) ∙ ap (λ xs. links_of (map link_tree xs)) (items_hidden-the_row-Link-6 v)
 
-pub vec_lists : (v : Vec list.List Global) → lists_tree (hidden-the_row-List-1 v) ≡ lists_of (map list_tree v.items)
-vec_lists v = lists_row _ (hidden-the_row-List-1 v) ∙ ap (λ xs. lists_of (map list_tree xs)) (items_hidden-the_row-List-1 v)
+pub vec_lists : (v : Vec list.List Global) → lists_tree (hidden-the_row-List-7 v) ≡ lists_of (map list_tree v.items)
+vec_lists v = lists_row _ (hidden-the_row-List-7 v) ∙ ap (λ xs. lists_of (map list_tree xs)) (items_hidden-the_row-List-7 v)
 
-pub vec_actuals : (v : Vec Actual Global) → actuals_tree (hidden-the_row-Actual-7 v) ≡ actuals_of (map actual_tree v.items)
-vec_actuals v = actuals_row _ (hidden-the_row-Actual-7 v) ∙ ap (λ xs. actuals_of (map actual_tree xs)) (items_hidden-the_row-Actual-7 v)
+pub vec_actuals : (v : Vec Actual Global) → actuals_tree (hidden-the_row-Actual-4 v) ≡ actuals_of (map actual_tree v.items)
+vec_actuals v = actuals_row _ (hidden-the_row-Actual-4 v) ∙ ap (λ xs. actuals_of (map actual_tree xs)) (items_hidden-the_row-Actual-4 v)
 
-pub vec_items : (v : Vec Item Global) → items_tree (hidden-the_row-Item-6 v) ≡ items_of (map item_tree v.items)
-vec_items v = items_row _ (hidden-the_row-Item-6 v) ∙ ap (λ xs. items_of (map item_tree xs)) (items_hidden-the_row-Item-6 v)
+pub vec_items : (v : Vec Item Global) → items_tree (hidden-the_row-Item-3 v) ≡ items_of (map item_tree v.items)
+vec_items v = items_row _ (hidden-the_row-Item-3 v) ∙ ap (λ xs. items_of (map item_tree xs)) (items_hidden-the_row-Item-3 v)
 
-pub vec_parts : (v : Vec Part Global) → parts_tree (hidden-the_row-Part-4 v) ≡ phrases_of (map part_tree v.items)
-vec_parts v = parts_row _ (hidden-the_row-Part-4 v) ∙ ap (λ xs. phrases_of (map part_tree xs)) (items_hidden-the_row-Part-4 v)
+pub vec_parts : (v : Vec Part Global) → parts_tree (hidden-the_row-Part-1 v) ≡ phrases_of (map part_tree v.items)
+vec_parts v = parts_row _ (hidden-the_row-Part-1 v) ∙ ap (λ xs. phrases_of (map part_tree xs)) (items_hidden-the_row-Part-1 v)
 
-pub vec_decls : (v : Vec Decl Global) → decls_tree (hidden-the_row-Decl-5 v) ≡ decls_of (map decl_tree v.items)
-vec_decls v = decls_row _ (hidden-the_row-Decl-5 v) ∙ ap (λ xs. decls_of (map decl_tree xs)) (items_hidden-the_row-Decl-5 v)
+pub vec_decls : (v : Vec Decl Global) → decls_tree (hidden-the_row-Decl-2 v) ≡ decls_of (map decl_tree v.items)
+vec_decls v = decls_row _ (hidden-the_row-Decl-2 v) ∙ ap (λ xs. decls_of (map decl_tree xs)) (items_hidden-the_row-Decl-2 v)
 
 pub vec_bounds : (v : Vec Bound Global) → bounds_tree (hidden-the_row-Bound-0 v) ≡ bounds_of (map bound_tree v.items)
 vec_bounds v = bounds_row _ (hidden-the_row-Bound-0 v) ∙ ap (λ xs. bounds_of (map bound_tree xs)) (items_hidden-the_row-Bound-0 v)
 
-pub named_at : (k : Kind) (n : List ℕ) (v : Vec list.List Global) (xs : List list.List) → k ≡ Named n v → xs ≡ v.items → kind_tree k ≡ Tree.Named n (lists_of (map list_tree xs))
-named_at k n v xs e e1 = ap kind_tree e ∙ ap (Tree.Named n) (vec_lists v ∙ ap (λ ys. lists_of (map list_tree ys)) (sym e1))
+-- what stands in a box, read at its fields
+pub listed_is : (l : Listed) → listed_tree l ≡ Tree.Named (out-Listed l).name (lists_of (map list_tree (out-Listed l).lists.items))
+unfolding roll-Listed denote.Hole.Carrier.roll
+listed_is l = ap listed_tree (sym (roll-out-Listed l)) ∙ ap (Tree.Named (out-Listed l).name) (vec_lists (out-Listed l).lists)
 
-pub chain_at : (k : Kind) (b : Box Phrase Global) (v : Vec Link Global) (x : Phrase) (xs : List Link) → k ≡ Chain b v → x ≡ b.value → xs ≡ v.items → kind_tree k ≡ Tree.Chain (tree x) (links_of (map link_tree xs))
-chain_at k b v x xs e e1 e2 = ap kind_tree e ∙ ap (Tree.Chain (tree b.value)) (vec_links v ∙ ap (λ ys. links_of (map link_tree ys)) (sym e2)) ∙ ap (λ y. Tree.Chain (tree y) (links_of (map link_tree xs))) (sym e1)
+pub chain_is : (c : Chain) → chain_tree c ≡ Tree.Chain (tree (out-Chain c).first) (links_of (map link_tree (out-Chain c).links.items))
+unfolding roll-Chain denote.Hole.Carrier.roll
+chain_is c = ap chain_tree (sym (roll-out-Chain c)) ∙ ap (Tree.Chain (tree (out-Chain c).first)) (vec_links (out-Chain c).links)
 
-pub case_value_at : (k : Kind) (b : Box Phrase Global) (v : Vec Phrase Global) (x : Phrase) (xs : List Phrase) → k ≡ CaseValue b v → x ≡ b.value → xs ≡ v.items → kind_tree k ≡ Tree.CaseValue (tree x) (phrases_of (map tree xs))
-case_value_at k b v x xs e e1 e2 = ap kind_tree e ∙ ap (Tree.CaseValue (tree b.value)) (vec_phrases v ∙ ap (λ ys. phrases_of (map tree ys)) (sym e2)) ∙ ap (λ y. Tree.CaseValue (tree y) (phrases_of (map tree xs))) (sym e1)
+pub conditional_is : (c : Conditional) → conditional_tree c ≡ Tree.IfThen (tree (out-Conditional c).condition) (tree (out-Conditional c).then) (optional_tree (out-Conditional c).otherwise)
+unfolding out-Conditional denote.Hole.Carrier.out
+conditional_is (Conditional' p f k p2 f2 k2 None') = refl
+conditional_is (Conditional' p f k p2 f2 k2 (Some' q p3 f3 k3)) = refl
 
-pub case_do_at : (k : Kind) (b : Box Phrase Global) (v : Vec Part Global) (x : Phrase) (xs : List Part) → k ≡ CaseDo b v → x ≡ b.value → xs ≡ v.items → kind_tree k ≡ Tree.CaseDo (tree x) (phrases_of (map part_tree xs))
-case_do_at k b v x xs e e1 e2 = ap kind_tree e ∙ ap (Tree.CaseDo (tree b.value)) (vec_parts v ∙ ap (λ ys. phrases_of (map part_tree ys)) (sym e2)) ∙ ap (λ y. Tree.CaseDo (tree y) (phrases_of (map part_tree xs))) (sym e1)
+pub case_value_is : (c : CaseValue) → case_value_tree c ≡ Tree.CaseValue (tree (out-CaseValue c).selector) (phrases_of (map tree (out-CaseValue c).values.items))
+unfolding roll-CaseValue denote.Hole.Carrier.roll
+case_value_is c = ap case_value_tree (sym (roll-out-CaseValue c)) ∙ ap (Tree.CaseValue (tree (out-CaseValue c).selector)) (vec_phrases (out-CaseValue c).values)
 
-for_option : (n : List ℕ) (a : Box Phrase Global) (o : Option (Box Phrase Global)) (b c : Box Phrase Global) → kind_tree (ForStep n a o b c) ≡ Tree.ForStep n (tree a.value) (optional_tree o) (tree b.value) (tree c.value)
-for_option n a None b c = refl
-for_option n a (Some s) b c = refl
+pub for_step_is : (l : ForStep) → for_step_tree l ≡ Tree.ForStep (out-ForStep l).name (tree (out-ForStep l).start) (optional_tree (out-ForStep l).step) (tree (out-ForStep l).limit) (tree (out-ForStep l).body)
+unfolding out-ForStep denote.Hole.Carrier.out
+for_step_is (ForStep' n p f k None' p2 f2 k2 p3 f3 k3) = refl
+for_step_is (ForStep' n p f k (Some' q p4 f4 k4) p2 f2 k2 p3 f3 k3) = refl
 
-pub for_step_at : (k : Kind) (n : List ℕ) (a : Box Phrase Global) (o : Option (Box Phrase Global)) (b c : Box Phrase Global) (x y z : Phrase) → k ≡ ForStep n a o b c → x ≡ a.value → y ≡ b.value → z ≡ c.value
-    → kind_tree k ≡ Tree.ForStep n (tree x) (optional_tree o) (tree y) (tree z)
-for_step_at k n a o b c x y z e e1 e2 e3 =
-    ap kind_tree e ∙ for_option n a o b c ∙ ap (λ w. Tree.ForStep n (tree w) (optional_tree o) (tree b.value) (tree c.value)) (sym e1) ∙ ap (λ w. Tree.ForStep n (tree x) (optional_tree o) (tree w) (tree c.value)) (sym e2)
-    ∙ ap (λ w. Tree.ForStep n (tree x) (optional_tree o) (tree y) (tree w)) (sym e3)
+pub for_list_is : (l : ForList) → for_list_tree l ≡ Tree.ForList (out-ForList l).name (phrases_of (map tree (out-ForList l).values.items)) (tree (out-ForList l).body)
+unfolding roll-ForList denote.Hole.Carrier.roll
+for_list_is l = ap for_list_tree (sym (roll-out-ForList l)) ∙ ap (λ xs. Tree.ForList (out-ForList l).name xs (tree (out-ForList l).body)) (vec_phrases (out-ForList l).values)
 
-pub for_list_at : (k : Kind) (n : List ℕ) (v : Vec Phrase Global) (b : Box Phrase Global) (xs : List Phrase) (x : Phrase) → k ≡ ForList n v b → xs ≡ v.items → x ≡ b.value → kind_tree k ≡ Tree.ForList n (phrases_of (map tree xs)) (tree x)
-for_list_at k n v b xs x e e1 e2 =
-    ap kind_tree e ∙ ap (λ ys. Tree.ForList n ys (tree b.value)) (vec_phrases v ∙ ap (λ ys. phrases_of (map tree ys)) (sym e1)) ∙ ap (λ y. Tree.ForList n (phrases_of (map tree xs)) (tree y)) (sym e2)
+-- a phrase's kind that is a box of one of these
+pub listed_at : (k : Kind) (b : Box Listed Global) (l : Listed) → k ≡ a_listed b → l ≡ b.value → kind_tree k ≡ listed_tree l
+listed_at k b l is held = ap kind_tree is ∙ ap listed_tree (sym held)
 
-pub block_at : (k : Kind) (ds : Vec Decl Global) (is : Vec Item Global) (xs : List Decl) (ys : List Item) → k ≡ Block ds is → xs ≡ ds.items → ys ≡ is.items → kind_tree k ≡ Tree.Block (decls_of (map decl_tree xs)) (items_of (map item_tree ys))
-block_at k ds is xs ys e e1 e2 =
-    ap kind_tree e ∙ ap (λ zs. Tree.Block zs (items_tree (hidden-the_row-Item-6 is))) (vec_decls ds ∙ ap (λ zs. decls_of (map decl_tree zs)) (sym e1))
-    ∙ ap (Tree.Block (decls_of (map decl_tree xs))) (vec_items is ∙ ap (λ zs. items_of (map item_tree zs)) (sym e2))
+pub chain_at : (k : Kind) (b : Box Chain Global) (c : Chain) → k ≡ a_chain b → c ≡ b.value → kind_tree k ≡ chain_tree c
+chain_at k b c is held = ap kind_tree is ∙ ap chain_tree (sym held)
+
+pub conditional_at : (k : Kind) (b : Box Conditional Global) (c : Conditional) → k ≡ IfThen b → c ≡ b.value → kind_tree k ≡ conditional_tree c
+conditional_at k b c is held = ap kind_tree is ∙ ap conditional_tree (sym held)
+
+pub class_test_at : (k : Kind) (b : Box ClassTest Global) (t : ClassTest) → k ≡ IsClass b → t ≡ b.value → kind_tree k ≡ class_test_tree t
+class_test_at k b t is held = ap kind_tree is ∙ ap class_test_tree (sym held)
+
+pub case_value_at : (k : Kind) (b : Box CaseValue Global) (c : CaseValue) → k ≡ a_case_value b → c ≡ b.value → kind_tree k ≡ case_value_tree c
+case_value_at k b c is held = ap kind_tree is ∙ ap case_value_tree (sym held)
+
+pub case_do_at : (k : Kind) (b : Box CaseDo Global) (c : CaseDo) → k ≡ a_case_do b → c ≡ b.value → kind_tree k ≡ case_do_tree c
+case_do_at k b c is held = ap kind_tree is ∙ ap (Tree.CaseDo (tree b.value.selector)) (vec_parts b.value.parts) ∙ ap case_do_tree (sym held)
+
+pub for_step_at : (k : Kind) (b : Box ForStep Global) (l : ForStep) → k ≡ a_for_step b → l ≡ b.value → kind_tree k ≡ for_step_tree l
+for_step_at k b l is held = ap kind_tree is ∙ ap for_step_tree (sym held)
+
+pub for_list_at : (k : Kind) (b : Box ForList Global) (l : ForList) → k ≡ a_for_list b → l ≡ b.value → kind_tree k ≡ for_list_tree l
+for_list_at k b l is held = ap kind_tree is ∙ ap for_list_tree (sym held)
+
+pub block_at : (k : Kind) (b : Box Block Global) (block : Block) → k ≡ a_block b → block ≡ b.value → kind_tree k ≡ block_tree block
+block_at k b block is held =
+    ap kind_tree is ∙ ap (λ zs. Tree.Block zs (items_tree (hidden-the_row-Item-3 b.value.items))) (vec_decls b.value.decls)
+    ∙ ap (Tree.Block (decls_of (map decl_tree b.value.decls.items))) (vec_items b.value.items) ∙ ap block_tree (sym held)
 
 pub actuals_at : (p : Place) (k : ListKind) (v : Vec Actual Global) (xs : List Actual) → k ≡ Actuals v → xs ≡ v.items → listing_tree p k ≡ Tree.OfActuals p (actuals_of (map actual_tree xs))
 actuals_at p k v xs e e1 = ap (listing_tree p) e ∙ ap (Tree.OfActuals p) (vec_actuals v ∙ ap (λ ys. actuals_of (map actual_tree ys)) (sym e1))

@@ -4,7 +4,15 @@ use Rattle.std.specs.Option.{option_map}
 use Rattle.std.specs.declared.boxed.Box.{Box}
 use Rattle.std.specs.declared.alloc.Global.{Global}
 use Rattle.algolw_tree.specs.declared.phrases.Phrase.{Phrase}
-use Rattle.algolw_tree.specs.declared.phrases.Kind.{Kind, Empty, Null, Number, Truth, BitsLit, Quoted, Goto, Named', Negated', Abs', Signed', Chain', Relation', IsClass', Assign', IfThen', CaseValue', CaseDo', ForStep', ForList', WhileDo', Assert', Block', Row_of-Link, end_of-Link, more_of-Link, Row_of-List, end_of-List, more_of-List, Row_of-Phrase, end_of-Phrase, more_of-Phrase, Held-Kind-IfThen-2, Some', None', Row_of-Part, end_of-Part, more_of-Part, Row_of-Item, end_of-Item, more_of-Item, Row_of-Decl, end_of-Decl, more_of-Decl}
+use Rattle.algolw_tree.specs.declared.phrases.Kind.{Kind, Empty, Null, Number, Truth, BitsLit, Quoted, Named, Goto, Listed', Negated', Abs', Signed', Chain', Relation', IsClass', Assign', IfThen', CaseValue', CaseDo', ForStep', ForList', WhileDo', Assert', Block'}
+use Rattle.algolw_tree.specs.declared.phrases.Listed.{Listed, Listed' as listed, Row_of-List, end_of-List, more_of-List}
+use Rattle.algolw_tree.specs.declared.phrases.Chain.{Chain, Chain' as chain, Row_of-Link, end_of-Link, more_of-Link}
+use Rattle.algolw_tree.specs.declared.phrases.Conditional.{Conditional, Conditional', Held-Conditional-otherwise, Some', None'}
+use Rattle.algolw_tree.specs.declared.phrases.CaseValue.{CaseValue, CaseValue' as case_value, Row_of-Phrase, end_of-Phrase, more_of-Phrase}
+use Rattle.algolw_tree.specs.declared.phrases.CaseDo.{CaseDo, Row_of-Part, end_of-Part, more_of-Part}
+use Rattle.algolw_tree.specs.declared.phrases.ForStep.{ForStep, ForStep' as for_step}
+use Rattle.algolw_tree.specs.declared.phrases.ForList.{ForList, ForList' as for_list}
+use Rattle.algolw_tree.specs.declared.phrases.Block.{Block, Row_of-Item, end_of-Item, more_of-Item, Row_of-Decl, end_of-Decl, more_of-Decl}
 use Rattle.algolw_tree.specs.declared.phrases.Actual.{Actual, Star, Phrase'}
 use Rattle.algolw_tree.specs.declared.phrases.ProcDecl.{ProcDecl, ProcDecl'}
 use Rattle.algolw_tree.specs.declared.phrases.Decl.{Decl, Simple, Array', Proc, Class, Row_of-Bound, end_of-Bound, more_of-Bound}
@@ -15,12 +23,14 @@ use Rattle.algolw_tree.specs.declared.phrases.Part.{Part, Empty as empty_part, P
 use Rattle.algolw_tree.specs.declared.phrases.Item.{Item, Empty as empty_item, Plain', Labelled' as labelled_item}
 use Rattle.algolw_tree.specs.declared.phrases.Labelled.{Labelled, Labelled'}
 use Rattle.algolw_tree.specs.declared.phrases.Bound.{Bound}
+use Rattle.algolw_tree.specs.declared.phrases.ClassTest.{ClassTest}
 use Rattle.value_ops.specs.declared.places.Place.{Place}
 use Rattle.algolw_tree.specs.declared.phrases.TypeSpec.{TypeSpec}
 use Rattle.algolw_tree.specs.declared.phrases.TypeSpec.TheVariants as spec
 use Rattle.algolw_tree.specs.declared.phrases.Formal.{Formal}
 use Rattle.algolw_tree.specs.declared.phrases.ClassDecl.{ClassDecl}
 use Rattle.algolw_tree.specs.Tree as Tree
+use Rattle.algolw_tree.specs.Grammar.{phrases_of, decls_of, items_of}
 
 abbrev pub spec_tree : TypeSpec → Tree.TypeSpec
 spec_tree spec.Integer = Tree.Integer
@@ -48,22 +58,41 @@ abbrev mutual
   kind_tree (BitsLit b) = Tree.BitsLit b
   kind_tree (Quoted t) = Tree.Quoted t
   kind_tree (Goto n) = Tree.Goto n
-  kind_tree (Named' n shape lists) = Tree.Named n (lists_tree lists)
+  kind_tree (Named n) = Tree.Named n Tree.no_lists
+  kind_tree (Listed' q l) = listed_tree l
   kind_tree (Negated' q place first kind) = Tree.Negated (Tree.At place first (kind_tree kind))
   kind_tree (Abs' q place first kind) = Tree.Abs (Tree.At place first (kind_tree kind))
   kind_tree (Signed' minus q place first kind) = Tree.Signed minus (Tree.At place first (kind_tree kind))
-  kind_tree (Chain' q place first kind shape links) = Tree.Chain (Tree.At place first (kind_tree kind)) (links_tree links)
+  kind_tree (Chain' q c) = chain_tree c
   kind_tree (Relation' op q place first kind q2 place2 first2 kind2) = Tree.Relation op (Tree.At place first (kind_tree kind)) (Tree.At place2 first2 (kind_tree kind2))
-  kind_tree (IsClass' q place first kind n at) = Tree.IsClass (Tree.At place first (kind_tree kind)) n at
+  kind_tree (IsClass' q place first kind class) = Tree.IsClass (Tree.At place first (kind_tree kind)) class.0 class.1
   kind_tree (Assign' q place first kind q2 place2 first2 kind2) = Tree.Assign (Tree.At place first (kind_tree kind)) (Tree.At place2 first2 (kind_tree kind2))
-  kind_tree (IfThen' q place first kind q2 place2 first2 kind2 otherwise) = Tree.IfThen (Tree.At place first (kind_tree kind)) (Tree.At place2 first2 (kind_tree kind2)) (perhaps_tree otherwise)
-  kind_tree (CaseValue' q place first kind shape values) = Tree.CaseValue (Tree.At place first (kind_tree kind)) (phrases_tree values)
+  kind_tree (IfThen' q c) = conditional_tree c
+  kind_tree (CaseValue' q c) = case_value_tree c
   kind_tree (CaseDo' q place first kind shape parts) = Tree.CaseDo (Tree.At place first (kind_tree kind)) (parts_tree parts)
-  kind_tree (ForStep' n q place first kind step q2 place2 first2 kind2 q3 place3 first3 kind3) = Tree.ForStep n (Tree.At place first (kind_tree kind)) (perhaps_tree step) (Tree.At place2 first2 (kind_tree kind2)) (Tree.At place3 first3 (kind_tree kind3))
-  kind_tree (ForList' n shape values q place first kind) = Tree.ForList n (phrases_tree values) (Tree.At place first (kind_tree kind))
+  kind_tree (ForStep' q f) = for_step_tree f
+  kind_tree (ForList' q f) = for_list_tree f
   kind_tree (WhileDo' q place first kind q2 place2 first2 kind2) = Tree.WhileDo (Tree.At place first (kind_tree kind)) (Tree.At place2 first2 (kind_tree kind2))
   kind_tree (Assert' q place first kind) = Tree.Assert (Tree.At place first (kind_tree kind))
-  kind_tree (Block' shape decls shape2 items) = Tree.Block (decls_tree decls) (items_tree items)
+  kind_tree (Block' q shape decls shape2 items) = Tree.Block (decls_tree decls) (items_tree items)
+
+  pub listed_tree : Listed → Tree.Kind
+  listed_tree (listed n shape lists) = Tree.Named n (lists_tree lists)
+
+  pub chain_tree : Chain → Tree.Kind
+  chain_tree (chain place first kind shape links) = Tree.Chain (Tree.At place first (kind_tree kind)) (links_tree links)
+
+  pub conditional_tree : Conditional → Tree.Kind
+  conditional_tree (Conditional' place first kind place2 first2 kind2 otherwise) = Tree.IfThen (Tree.At place first (kind_tree kind)) (Tree.At place2 first2 (kind_tree kind2)) (perhaps_tree otherwise)
+
+  pub case_value_tree : CaseValue → Tree.Kind
+  case_value_tree (case_value place first kind shape values) = Tree.CaseValue (Tree.At place first (kind_tree kind)) (phrases_tree values)
+
+  pub for_step_tree : ForStep → Tree.Kind
+  for_step_tree (for_step n place first kind step place2 first2 kind2 place3 first3 kind3) = Tree.ForStep n (Tree.At place first (kind_tree kind)) (perhaps_tree step) (Tree.At place2 first2 (kind_tree kind2)) (Tree.At place3 first3 (kind_tree kind3))
+
+  pub for_list_tree : ForList → Tree.Kind
+  for_list_tree (for_list n shape values place first kind) = Tree.ForList n (phrases_tree values) (Tree.At place first (kind_tree kind))
 
   pub phrases_tree : {m : _} → Row_of-Phrase m → Tree.Phrases
   phrases_tree end_of-Phrase = Tree.no_phrases
@@ -87,9 +116,9 @@ abbrev mutual
 
   pub actual_tree : Actual → Tree.Actual
   actual_tree (Star place) = Tree.Star place
-  actual_tree (Phrase' q place first kind) = Tree.Given (Tree.At place first (kind_tree kind))
+  actual_tree (Phrase' place first kind) = Tree.Given (Tree.At place first (kind_tree kind))
 
-  pub perhaps_tree : Held-Kind-IfThen-2 → Tree.Perhaps
+  pub perhaps_tree : Held-Conditional-otherwise → Tree.Perhaps
   perhaps_tree None' = Tree.Missing
   perhaps_tree (Some' q place first kind) = Tree.There (Tree.At place first (kind_tree kind))
 
@@ -147,3 +176,12 @@ bound_tree b = Tree.Between b.place (tree b.lower) (tree b.upper)
 abbrev pub optional_tree : Option (Box Phrase Global) → Tree.Perhaps
 optional_tree None = Tree.Missing
 optional_tree (Some a) = Tree.There (tree a.value)
+
+abbrev pub class_test_tree : ClassTest → Tree.Kind
+class_test_tree t = Tree.IsClass (tree t.reference) t.class.0 t.class.1
+
+abbrev pub case_do_tree : CaseDo → Tree.Kind
+case_do_tree c = Tree.CaseDo (tree c.selector) (phrases_of (map part_tree c.parts.items))
+
+abbrev pub block_tree : Block → Tree.Kind
+block_tree b = Tree.Block (decls_of (map decl_tree b.decls.items)) (items_of (map item_tree b.items.items))

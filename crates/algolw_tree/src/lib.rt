@@ -8,8 +8,9 @@ mod tokens;
 mod words;
 
 pub use phrases::{
-    Actual, Bound, ClassDecl, Decl, Formal, Item, Kind, Labelled, Link, List, ListKind, Mode,
-    Names, Op, Part, Phrase, ProcDecl, RelOp, TypeSpec,
+    Actual, Block, Bound, CaseDo, CaseValue, Chain, ClassDecl, ClassTest, Conditional, Decl,
+    ForList, ForStep, Formal, Item, Kind, Labelled, Link, List, ListKind, Listed, Mode, Names, Op,
+    Part, Phrase, ProcDecl, RelOp, TypeSpec,
 };
 pub use programs::{
     Gives, NameInfo, Node, NodeKind, Program, Targets, TypedActual, TypedBound, TypedClass,

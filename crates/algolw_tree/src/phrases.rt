@@ -1,8 +1,8 @@
 use crate::spelling::Spelling;
-use value_ops::{Name, Place};
+use value_ops::Place;
 
 /// Names, each with its place.
-pub type Names = Vec<(Name, Place)>;
+pub type Names = Vec<(Spelling, Place)>;
 
 /// A part of a program: an expression, a statement or a block.
 #[cycle(phrases)]
@@ -16,7 +16,7 @@ pub struct Phrase {
     pub kind: Kind,
 }
 
-/// What a phrase is.
+/// What a phrase is. What takes more than three words stands in a box.
 #[cycle(phrases)]
 #[derive(Drop)]
 pub enum Kind {
@@ -32,8 +32,10 @@ pub enum Kind {
     BitsLit(u32),
     /// A string that is written out.
     Quoted(Spelling),
+    /// A name without lists behind it.
+    Named(Spelling),
     /// A name, and the lists in parentheses behind it.
-    Named(Spelling, Vec<List>),
+    Listed(Box<Listed>),
     /// `~` and its operand.
     Negated(Box<Phrase>),
     /// `ABS` and its operand.
@@ -41,31 +43,131 @@ pub enum Kind {
     /// A term behind a sign, which is a minus or not.
     Signed(bool, Box<Phrase>),
     /// Operands with operators of one level between them, from left to right.
-    Chain(Box<Phrase>, Vec<Link>),
+    Chain(Box<Chain>),
     /// A comparison.
     Relation(RelOp, Box<Phrase>, Box<Phrase>),
     /// Whether a reference is to a record of the class that is named at a place.
-    IsClass(Box<Phrase>, Spelling, Place),
+    IsClass(Box<ClassTest>),
     /// An assignment of the second to the first.
     Assign(Box<Phrase>, Box<Phrase>),
-    /// `IF`, its condition, what is done where it holds, and otherwise.
-    IfThen(Box<Phrase>, Box<Phrase>, Option<Box<Phrase>>),
+    /// `IF` with a condition.
+    IfThen(Box<Conditional>),
     /// `CASE` with the values to choose from.
-    CaseValue(Box<Phrase>, Vec<Phrase>),
+    CaseValue(Box<CaseValue>),
     /// `CASE` with the statements to choose from.
-    CaseDo(Box<Phrase>, Vec<Part>),
-    /// `FOR` a control name: the start, the step, the limit, and what is done.
-    ForStep(Spelling, Box<Phrase>, Option<Box<Phrase>>, Box<Phrase>, Box<Phrase>),
-    /// `FOR` a control name: the values, and what is done.
-    ForList(Spelling, Vec<Phrase>, Box<Phrase>),
+    CaseDo(Box<CaseDo>),
+    /// `FOR` a control name, from a start to a limit.
+    ForStep(Box<ForStep>),
+    /// `FOR` a control name with the values that are listed.
+    ForList(Box<ForList>),
     /// `WHILE`, its condition, and what is done.
     WhileDo(Box<Phrase>, Box<Phrase>),
     /// `GOTO` a label.
     Goto(Spelling),
     /// `ASSERT` a condition.
     Assert(Box<Phrase>),
-    /// A block: its declarations and its items.
-    Block(Vec<Decl>, Vec<Item>),
+    /// A block.
+    Block(Box<Block>),
+}
+
+/// A name with lists behind it.
+#[cycle(phrases)]
+#[derive(Drop)]
+pub struct Listed {
+    /// The name.
+    pub name: Spelling,
+    /// The lists in parentheses.
+    pub lists: Vec<List>,
+}
+
+/// A chain of operands.
+#[cycle(phrases)]
+#[derive(Drop)]
+pub struct Chain {
+    /// The first operand.
+    pub first: Phrase,
+    /// The operators and operands behind it.
+    pub links: Vec<Link>,
+}
+
+/// A test of a reference's class.
+#[cycle(phrases)]
+#[derive(Drop)]
+pub struct ClassTest {
+    /// The reference.
+    pub reference: Phrase,
+    /// The class's name, and where that stands.
+    pub class: (Spelling, Place),
+}
+
+/// What is done where a condition holds, and otherwise.
+#[cycle(phrases)]
+#[derive(Drop)]
+pub struct Conditional {
+    /// The condition.
+    pub condition: Phrase,
+    /// What is done where it holds.
+    pub then: Phrase,
+    /// What is done otherwise, where that is said.
+    pub otherwise: Option<Box<Phrase>>,
+}
+
+/// A choice of a value.
+#[cycle(phrases)]
+#[derive(Drop)]
+pub struct CaseValue {
+    /// Which value it is.
+    pub selector: Phrase,
+    /// The values.
+    pub values: Vec<Phrase>,
+}
+
+/// A choice of a statement.
+#[cycle(phrases)]
+#[derive(Drop)]
+pub struct CaseDo {
+    /// Which statement it is.
+    pub selector: Phrase,
+    /// The statements.
+    pub parts: Vec<Part>,
+}
+
+/// A loop from a start to a limit.
+#[cycle(phrases)]
+#[derive(Drop)]
+pub struct ForStep {
+    /// The control name.
+    pub name: Spelling,
+    /// Its first value.
+    pub start: Phrase,
+    /// The step, where one is written.
+    pub step: Option<Box<Phrase>>,
+    /// The limit.
+    pub limit: Phrase,
+    /// What is done.
+    pub body: Phrase,
+}
+
+/// A loop over values that are listed.
+#[cycle(phrases)]
+#[derive(Drop)]
+pub struct ForList {
+    /// The control name.
+    pub name: Spelling,
+    /// Its values.
+    pub values: Vec<Phrase>,
+    /// What is done.
+    pub body: Phrase,
+}
+
+/// What stands between `BEGIN` and `END`.
+#[cycle(phrases)]
+#[derive(Drop)]
+pub struct Block {
+    /// Its declarations.
+    pub decls: Vec<Decl>,
+    /// Its items.
+    pub items: Vec<Item>,
 }
 
 /// An operator of a chain and the operand behind it.
@@ -107,7 +209,7 @@ pub enum Actual {
     /// `*`, which stands for a whole dimension, at a place.
     Star(Place),
     /// A phrase.
-    Phrase(Box<Phrase>),
+    Phrase(Phrase),
 }
 
 /// A phrase that may be missing, as it stands in a row.
@@ -177,7 +279,7 @@ pub struct ProcDecl {
     /// The type of its value, where it has one.
     pub result: Option<TypeSpec>,
     /// Its name, and where that stands.
-    pub name: (Name, Place),
+    pub name: (Spelling, Place),
     /// Its formals.
     pub formals: Vec<Formal>,
     /// Its body, which may be empty.
@@ -188,7 +290,7 @@ pub struct ProcDecl {
 #[derive(Drop)]
 pub struct ClassDecl {
     /// Its name, and where that stands.
-    pub name: (Name, Place),
+    pub name: (Spelling, Place),
     /// Its fields, by groups of one type.
     pub groups: Vec<(TypeSpec, Names)>,
 }

@@ -1,13 +1,26 @@
-ghost use Rattle.std.specs.Prelude.{◌≡◌, IfOk};
+ghost use Rattle.std.specs.Prelude.{◌≡◌, ◌≤◌, length, take, IfOk};
+ghost use Rattle.algolw_tree.specs.Spelled.{characters, Holds};
 
 use std::alloc::{AllocError, Global};
 use std::marker::Model;
 use value_ops::Name;
 
-/// How a name or a string is spelled, held apart, so that what has it is small.
+/// How many characters stand in place: with their number and a tag they are as large as a pointer beside its tag.
+const MOST_IN_PLACE: usize = 14;
+
+/// How a name or a string is spelled. A short one stands in place, so that what has it is small and takes nothing more.
 #[derive(Drop)]
 pub struct Spelling {
-    text: Box<Name>,
+    text: Held,
+}
+
+/// Where the characters are.
+#[derive(Drop)]
+enum Held {
+    /// In place: so many of these.
+    InPlace([u8; MOST_IN_PLACE], u8),
+    /// Apart.
+    Apart(Box<Name>),
 }
 
 impl Model for Spelling {
@@ -15,22 +28,63 @@ impl Model for Spelling {
 
     ghost Value = { List ℕ };
 
-    ghost view = { λ s. s.text.value };
+    ghost use Rattle.algolw_tree.specs.Spelled.{spelled, Fits};
+
+    ghost view = { spelled };
+
+    ghost invariant = { Fits };
 }
 
 impl Spelling {
-    /// This name or string, held apart.
-    pub fn new(alloc: Global, text: Name) -> Result<Spelling, AllocError>
-        ensures { IfOk result (λ held. held ≡ text) }
+    /// This name or string.
+    pub fn new(alloc: Global, text: &Name) -> Result<Spelling, AllocError>
+        ensures { IfOk result (λ held. held ≡ text.now) }
     {
-        let text = Box::new(alloc, text)?;
+        let text = if text.len() <= MOST_IN_PLACE {
+            in_place(text.as_slice())
+        } else {
+            Held::Apart(Box::new(alloc, *text)?)
+        };
         Ok(Spelling { text })
     }
 
-    /// The name or string.
-    pub fn get(&self) -> &Name
+    /// Its characters.
+    pub fn as_slice(&self) -> &[u8]
         ensures { result.now ≡ self.now }
     {
-        &self.text
+        match &self.text {
+            Held::InPlace(bytes, count) => &bytes[..usize::from(*count)],
+            Held::Apart(name) => name.as_slice(),
+        }
     }
+
+    /// The same once more.
+    pub fn copied(&self, alloc: Global) -> Result<Spelling, AllocError>
+        ensures { IfOk result (λ copy. copy ≡ self.now) }
+    {
+        let text = match &self.text {
+            Held::InPlace(bytes, count) => Held::InPlace(*bytes, *count),
+            Held::Apart(name) => Held::Apart(Box::new(alloc, **name)?),
+        };
+        Ok(Spelling { text })
+    }
+}
+
+/// These characters, in place.
+fn in_place(text: &[u8]) -> Held
+    requires { length text.now ≤ 14 }
+    ensures text { characters result ≡ text.now }
+    ensures fits { Holds result }
+{
+    let mut bytes = [0; MOST_IN_PLACE];
+    write_to(&mut bytes, text);
+    Held::InPlace(bytes, text.len() as u8)
+}
+
+/// Writes characters to the front of bytes.
+fn write_to(bytes: &mut [u8], text: &[u8])
+    requires { length text.now ≤ length bytes.old }
+    ensures { take (length text.now) bytes.new ≡ text.now }
+{
+    bytes[..text.len()].copy_from_slice(text);
 }

@@ -52,6 +52,17 @@ controlled r a b c d f inner path xs head body scope is before h =
     let last : Naming = naming (inside f xs) (scope_of xs ∷ path) body in
     on_ok_weaker r (λ g. adds_and a b d (declares f xs) (and head last) scope (adds_and b c d head last before g)) (subst (λ (i : Frame). OnOk r (Adds c d (naming i (scope_of xs ∷ path) body))) is h)
 
+-- the same with all that it adds at hand
+pub controlled_adds : (a b c d : Resolver) (f inner : Frame) (path within : NamePath) (xs : List Placed) (head : Naming) (body : Tree.Phrase) → Adds a b (declares f xs) → inner ≡ inside f xs → Adds b c head → within ≡ scope_of xs ∷ path
+    → Adds c d (naming inner within body) → Adds a d (controlled_naming f path xs head body)
+controlled_adds a b c d f inner path within xs head body scope is before at h =
+    let last : Naming = naming (inside f xs) (scope_of xs ∷ path) body in
+    let there : Adds c d last = subst (λ (i : Frame). Adds c d (naming i (scope_of xs ∷ path) body)) is (subst (λ (p : NamePath). Adds c d (naming inner p body)) at h) in
+    adds_and a b d (declares f xs) (and head last) scope (adds_and b c d head last before there)
+
+pub by_tree : (a b : Resolver) (f : Frame) (path : NamePath) (p : Place) (k l : Tree.Kind) → k ≡ l → Adds a b (kind_naming f path p l) → Adds a b (kind_naming f path p k)
+by_tree a b f path p k l e h = subst (λ (z : Tree.Kind). Adds a b (kind_naming f path p z)) (sym e) h
+
 -- what stands before the body, in the frame inside the scope
 pub range_inside : (b c : Resolver) (inner g : Frame) (path : NamePath) (x : Tree.Phrase) (s : Tree.Perhaps) (y : Tree.Phrase) → inner ≡ g → Adds b c (and (naming inner path x) (and (perhaps_naming inner path s) (naming inner path y))) → Adds b c (and (naming g path x) (and (perhaps_naming g path s) (naming g path y)))
 range_inside b c inner g path x s y e h = subst (λ (i : Frame). Adds b c (and (naming i path x) (and (perhaps_naming i path s) (naming i path y)))) e h

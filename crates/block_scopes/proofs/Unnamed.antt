@@ -59,6 +59,15 @@ behind a b n m none g = record {
 pub behind_none : {T E : Type 0} (r : Result T E) (a b : Resolver) (n m : Naming) → DeclaresNone n → OnOk r (Adds a b m) → OnOk r (Adds a b (and n m))
 behind_none r a b n m none h = on_ok_weaker r (behind a b n m none) h
 
+ahead : (a b : Resolver) (m n : Naming) → DeclaresNone n → Adds a b m → Adds a b (and m n)
+ahead a b m n none g = record {
+  names = g.names ∙ ap (λ xs. a.names.items ++ xs) (sym (append-nil m.names) ∙ ap (λ xs. m.names ++ xs) (sym none.names));
+  classes = g.classes ∙ ap (λ xs. map class_view a.classes.items ++ xs) (sym (append-nil m.classes) ∙ ap (λ xs. m.classes ++ xs) (sym none.classes));
+}
+
+pub ahead_none : {T E : Type 0} (r : Result T E) (a b : Resolver) (m n : Naming) → DeclaresNone n → OnOk r (Adds a b m) → OnOk r (Adds a b (and m n))
+ahead_none r a b m n none h = on_ok_weaker r (ahead a b m n none) h
+
 -- a record class more
 pub class_more : (old new : List FoundClass) (found : FoundClass) (class : Class) → new ≡ old ++ found ∷ [] → class_view found ≡ class → map class_view new ≡ map class_view old ++ class ∷ []
 class_more old new found class more is = ap (map class_view) more ∙ map-append class_view old (found ∷ []) ∙ ap (λ c. map class_view old ++ c ∷ []) is

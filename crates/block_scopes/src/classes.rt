@@ -4,8 +4,8 @@ ghost use Rattle.algolw_typing.specs.Naming.{class_fields, fields_of};
 ghost use Rattle.algolw_typing.specs.Scopes as rules;
 ghost use Rattle.typing_rules.specs.View.{classes_of, value_type};
 ghost use Rattle.block_scopes.specs.ClassView.{field_view};
-ghost use Rattle.name_scopes.specs.Paths.{path_view};
 
+use crate::names::name_of;
 use algolw_tree::{Names, TypeSpec};
 use bumpalo::Bump;
 use name_scopes::ScopePath;
@@ -46,7 +46,7 @@ fn class_set<'a>(
     path: &ScopePath,
     names: &Names,
 ) -> Result<ClassSet<'a>, AllocError>
-    ensures { IfOk result (λ set. classes_of set ≡ rules.class_set (path_view path.now) names.now.items) }
+    ensures { IfOk result (λ set. classes_of set ≡ rules.class_set path.now names.now.items) }
 {
     let mut classes = Vec::with_capacity(arena, names.len())?;
     for (name, _) in names {
@@ -63,7 +63,7 @@ fn spec_type<'a>(
     path: &ScopePath,
     spec: &TypeSpec,
 ) -> Result<ValueType<'a>, AllocError>
-    ensures { IfOk result (λ t. value_type t ≡ rules.spec_type (path_view path.now) (spec_tree spec.now)) }
+    ensures { IfOk result (λ t. value_type t ≡ rules.spec_type path.now (spec_tree spec.now)) }
 {
     Ok(match spec {
         TypeSpec::Integer => ValueType::Integer,
@@ -86,7 +86,7 @@ fn add_fields<'a>(
 {
     for (name, _) in names {
         let field = Field {
-            name: *name,
+            name: name_of(name)?,
             field_type,
         };
         if fields.push(field).is_err() {
@@ -105,7 +105,7 @@ pub fn class_fields<'a>(
 ) -> Result<Vec<Field<'a>>, AllocError>
     ensures { IfOk result (λ fields.
         map field_view fields.items
-        ≡ class_fields (path_view path.now) (map (λ g. (spec_tree g.0, g.1.items)) groups.now)) }
+        ≡ class_fields path.now (map (λ g. (spec_tree g.0, g.1.items)) groups.now)) }
 {
     let mut fields = Vec::new(alloc);
     for (spec, names) in groups {

@@ -4,6 +4,7 @@
 mod blocks;
 mod classes;
 mod frame;
+mod names;
 mod order;
 mod phrases;
 mod resolver;

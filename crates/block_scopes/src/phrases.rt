@@ -1,30 +1,33 @@
 ghost use Rattle.std.specs.Prelude.{◌≡◌, OnOk, map};
 ghost use Rattle.algolw_tree.specs.Tree as T;
 ghost use Rattle.algolw_tree.specs.Grammar.{phrases_of, links_of, lists_of, actuals_of, items_of, decls_of, bounds_of};
-ghost use Rattle.algolw_tree.specs.View.{tree, link_tree, list_tree, actual_tree, part_tree, item_tree, decl_tree, bound_tree, optional_tree, procedure_tree};
-ghost use Rattle.algolw_typing.specs.Naming.{and, naming, phrases_naming, perhaps_naming, links_naming, lists_naming, actuals_naming, items_naming, bounds_naming, decls_naming, decl_naming, inside};
+ghost use Rattle.algolw_tree.specs.View.{tree, link_tree, list_tree, actual_tree, part_tree, item_tree, decl_tree, bound_tree, optional_tree, procedure_tree, chain_tree, conditional_tree, case_value_tree, case_do_tree, for_step_tree, for_list_tree, block_tree};
+ghost use Rattle.algolw_typing.specs.Naming.{and, naming, kind_naming, phrases_naming, perhaps_naming, links_naming, lists_naming, actuals_naming, items_naming, bounds_naming, decls_naming, decl_naming};
 ghost use Rattle.block_scopes.specs.Adding.{Adds, frame_view};
-ghost use Rattle.block_scopes.specs.Parts.{listing_naming, actual_naming, item_naming, block_naming, controlled_naming};
-ghost use Rattle.name_scopes.specs.Paths.{path_view};
+ghost use Rattle.block_scopes.specs.Parts.{listing_naming, actual_naming, item_naming};
 
 use crate::blocks::{block_scope, control_scope, formal_scope};
 use crate::frame::Frame;
 use crate::resolver::Resolver;
-use algolw_tree::{Actual, Bound, Decl, Item, Kind, Link, List, ListKind, Part, Phrase, ProcDecl};
-use name_scopes::{Scope, ScopePath};
+use algolw_tree::{
+    Actual, Block, Bound, CaseDo, CaseValue, Chain, Conditional, Decl, ForList, ForStep, Item,
+    Kind, Link, List, ListKind, Part, Phrase, ProcDecl,
+};
+use name_scopes::ScopePath;
 use std::alloc::AllocError;
+use value_ops::Place;
 
 impl Resolver<'_> {
     /// Resolves a phrase.
     #[cycle(phrases)]
-    pub fn phrase(
+    pub fn phrase<'t>(
         &mut self,
         frame: Frame,
-        path: &ScopePath,
-        phrase: &Phrase,
+        path: &ScopePath<'_, 't>,
+        phrase: &'t Phrase,
     ) -> Result<(), AllocError>
         ensures { OnOk result (Adds self.old self.new
-            (naming (frame_view frame) (path_view path.now) (tree phrase.now))) }
+            (naming (frame_view frame) path.now (tree phrase.now))) }
     {
         let place = phrase.place;
         match &phrase.kind {
@@ -34,48 +37,39 @@ impl Resolver<'_> {
             | Kind::Truth(_)
             | Kind::BitsLit(_)
             | Kind::Quoted(_)
-            | Kind::Goto(_) => Ok(()),
-            Kind::Named(_, lists) => self.lists(frame, path, lists),
+            | Kind::Goto(_)
+            | Kind::Named(_) => Ok(()),
+            Kind::Listed(listed) => self.lists(frame, path, &listed.lists),
             Kind::Negated(operand) => self.phrase(frame, path, operand),
             Kind::Abs(operand) => self.phrase(frame, path, operand),
             Kind::Signed(_, operand) => self.phrase(frame, path, operand),
-            Kind::Chain(first, links) => self.chain(frame, path, first, links),
+            Kind::Chain(chain) => self.chain(frame, path, chain),
             Kind::Relation(_, left, right) => self.both(frame, path, left, right),
-            Kind::IsClass(operand, _, _) => self.phrase(frame, path, operand),
+            Kind::IsClass(test) => self.phrase(frame, path, &test.reference),
             Kind::Assign(left, right) => self.both(frame, path, left, right),
-            Kind::IfThen(condition, then, otherwise) => {
-                self.conditional(frame, path, condition, then, otherwise)
-            }
-            Kind::CaseValue(subject, values) => self.selection(frame, path, subject, values),
-            Kind::CaseDo(subject, parts) => self.choice(frame, path, subject, parts),
-            Kind::ForStep(name, start, step, limit, body) => {
-                let scope = control_scope(self.alloc, *name.get(), place)?;
-                let inner = self.declares(frame, &scope)?;
-                self.range(inner, path, start, step, limit)?;
-                self.phrase(inner, &ScopePath::Inner(&scope, &*path), body)
-            }
-            Kind::ForList(name, values, body) => {
-                let scope = control_scope(self.alloc, *name.get(), place)?;
-                self.for_list(frame, path, &scope, values, body)
-            }
+            Kind::IfThen(conditional) => self.conditional(frame, path, conditional),
+            Kind::CaseValue(case) => self.selection(frame, path, case),
+            Kind::CaseDo(case) => self.choice(frame, path, case),
+            Kind::ForStep(turns) => self.for_step(frame, path, place, turns),
+            Kind::ForList(turns) => self.for_list(frame, path, place, turns),
             Kind::WhileDo(condition, body) => self.both(frame, path, condition, body),
             Kind::Assert(condition) => self.phrase(frame, path, condition),
-            Kind::Block(decls, items) => self.block(frame, path, decls, items),
+            Kind::Block(block) => self.block(frame, path, block),
         }
     }
 
     /// Resolves two phrases.
     #[cycle(phrases)]
-    fn both(
+    fn both<'t>(
         &mut self,
         frame: Frame,
-        path: &ScopePath,
-        left: &Phrase,
-        right: &Phrase,
+        path: &ScopePath<'_, 't>,
+        left: &'t Phrase,
+        right: &'t Phrase,
     ) -> Result<(), AllocError>
         ensures { OnOk result (Adds self.old self.new
-            (and (naming (frame_view frame) (path_view path.now) (tree left.now))
-            (naming (frame_view frame) (path_view path.now) (tree right.now)))) }
+            (and (naming (frame_view frame) path.now (tree left.now))
+            (naming (frame_view frame) path.now (tree right.now)))) }
     {
         self.phrase(frame, path, left)?;
         self.phrase(frame, path, right)?;
@@ -84,132 +78,124 @@ impl Resolver<'_> {
 
     /// Resolves a chain.
     #[cycle(phrases)]
-    fn chain(
+    #[tactic(auto, using(algolw_tree::proofs::Rows::chain_is))]
+    fn chain<'t>(
         &mut self,
         frame: Frame,
-        path: &ScopePath,
-        first: &Phrase,
-        links: &[Link],
+        path: &ScopePath<'_, 't>,
+        chain: &'t Chain,
     ) -> Result<(), AllocError>
-        ensures { OnOk result (Adds self.old self.new
-            (and (naming (frame_view frame) (path_view path.now) (tree first.now))
-            (links_naming (frame_view frame) (path_view path.now) (links_of (map link_tree links.now))))) }
+        ensures { (place : Place) → OnOk result (Adds self.old self.new
+            (kind_naming (frame_view frame) path.now place (chain_tree chain.now))) }
     {
-        self.phrase(frame, path, first)?;
-        self.links(frame, path, links)?;
+        self.phrase(frame, path, &chain.first)?;
+        self.links(frame, path, &chain.links)?;
         Ok(())
     }
 
     /// Resolves an IF.
     #[cycle(phrases)]
-    fn conditional(
+    #[tactic(auto, using(algolw_tree::proofs::Rows::conditional_is))]
+    fn conditional<'t>(
         &mut self,
         frame: Frame,
-        path: &ScopePath,
-        condition: &Phrase,
-        then: &Phrase,
-        otherwise: &Option<Box<Phrase>>,
+        path: &ScopePath<'_, 't>,
+        conditional: &'t Conditional,
     ) -> Result<(), AllocError>
-        ensures { OnOk result (Adds self.old self.new
-            (and (naming (frame_view frame) (path_view path.now) (tree condition.now))
-            (and (naming (frame_view frame) (path_view path.now) (tree then.now))
-            (perhaps_naming (frame_view frame) (path_view path.now) (optional_tree otherwise.now))))) }
+        ensures { (place : Place) → OnOk result (Adds self.old self.new
+            (kind_naming (frame_view frame) path.now place (conditional_tree conditional.now))) }
     {
-        self.phrase(frame, path, condition)?;
-        self.phrase(frame, path, then)?;
-        self.perhaps(frame, path, otherwise)?;
+        self.phrase(frame, path, &conditional.condition)?;
+        self.phrase(frame, path, &conditional.then)?;
+        self.perhaps(frame, path, &conditional.otherwise)?;
         Ok(())
     }
 
     /// Resolves a CASE with values.
     #[cycle(phrases)]
-    fn selection(
+    #[tactic(auto, using(algolw_tree::proofs::Rows::case_value_is))]
+    fn selection<'t>(
         &mut self,
         frame: Frame,
-        path: &ScopePath,
-        subject: &Phrase,
-        values: &[Phrase],
+        path: &ScopePath<'_, 't>,
+        case: &'t CaseValue,
     ) -> Result<(), AllocError>
-        ensures { OnOk result (Adds self.old self.new
-            (and (naming (frame_view frame) (path_view path.now) (tree subject.now))
-            (phrases_naming (frame_view frame) (path_view path.now) (phrases_of (map tree values.now))))) }
+        ensures { (place : Place) → OnOk result (Adds self.old self.new
+            (kind_naming (frame_view frame) path.now place (case_value_tree case.now))) }
     {
-        self.phrase(frame, path, subject)?;
-        self.phrases(frame, path, values)?;
+        self.phrase(frame, path, &case.selector)?;
+        self.phrases(frame, path, &case.values)?;
         Ok(())
     }
 
     /// Resolves a CASE with statements.
     #[cycle(phrases)]
-    fn choice(
+    fn choice<'t>(
         &mut self,
         frame: Frame,
-        path: &ScopePath,
-        subject: &Phrase,
-        parts: &[Part],
+        path: &ScopePath<'_, 't>,
+        case: &'t CaseDo,
     ) -> Result<(), AllocError>
-        ensures { OnOk result (Adds self.old self.new
-            (and (naming (frame_view frame) (path_view path.now) (tree subject.now))
-            (phrases_naming (frame_view frame) (path_view path.now) (phrases_of (map part_tree parts.now))))) }
+        ensures { (place : Place) → OnOk result (Adds self.old self.new
+            (kind_naming (frame_view frame) path.now place (case_do_tree case.now))) }
     {
-        self.phrase(frame, path, subject)?;
-        self.parts(frame, path, parts)?;
+        self.phrase(frame, path, &case.selector)?;
+        self.parts(frame, path, &case.parts)?;
         Ok(())
     }
 
-    /// Resolves the start, the step and the limit of a FOR.
+    /// Resolves a FOR with a limit, which stands at this place.
     #[cycle(phrases)]
-    fn range(
+    #[tactic(auto, using(algolw_tree::proofs::Rows::for_step_is))]
+    fn for_step<'t>(
         &mut self,
         frame: Frame,
-        path: &ScopePath,
-        start: &Phrase,
-        step: &Option<Box<Phrase>>,
-        limit: &Phrase,
+        path: &ScopePath<'_, 't>,
+        place: Place,
+        turns: &'t ForStep,
     ) -> Result<(), AllocError>
         ensures { OnOk result (Adds self.old self.new
-            (and (naming (frame_view frame) (path_view path.now) (tree start.now))
-            (and (perhaps_naming (frame_view frame) (path_view path.now) (optional_tree step.now))
-            (naming (frame_view frame) (path_view path.now) (tree limit.now))))) }
+            (kind_naming (frame_view frame) path.now place (for_step_tree turns.now))) }
     {
-        self.phrase(frame, path, start)?;
-        self.perhaps(frame, path, step)?;
-        self.phrase(frame, path, limit)?;
+        let scope = control_scope(self.alloc, &turns.name, place)?;
+        let inner = self.declares(frame, &scope)?;
+        self.phrase(inner, path, &turns.start)?;
+        self.perhaps(inner, path, &turns.step)?;
+        self.phrase(inner, path, &turns.limit)?;
+        self.phrase(inner, &ScopePath::inner(&scope, &*path), &turns.body)?;
         Ok(())
     }
 
-    /// Resolves a FOR with values, whose scope is this.
+    /// Resolves a FOR with values, which stands at this place.
     #[cycle(phrases)]
-    fn for_list(
+    #[tactic(auto, using(algolw_tree::proofs::Rows::for_list_is))]
+    fn for_list<'t>(
         &mut self,
         frame: Frame,
-        path: &ScopePath,
-        scope: &Scope,
-        values: &[Phrase],
-        body: &Phrase,
+        path: &ScopePath<'_, 't>,
+        place: Place,
+        turns: &'t ForList,
     ) -> Result<(), AllocError>
         ensures { OnOk result (Adds self.old self.new
-            (controlled_naming (frame_view frame) (path_view path.now) scope.now
-            (phrases_naming (inside (frame_view frame) scope.now) (path_view path.now)
-            (phrases_of (map tree values.now)))
-            (tree body.now))) }
+            (kind_naming (frame_view frame) path.now place (for_list_tree turns.now))) }
     {
-        let inner = self.declares(frame, scope)?;
-        self.phrases(inner, path, values)?;
-        self.phrase(inner, &ScopePath::Inner(&*scope, &*path), body)?;
+        let scope = control_scope(self.alloc, &turns.name, place)?;
+        let inner = self.declares(frame, &scope)?;
+        self.phrases(inner, path, &turns.values)?;
+        self.phrase(inner, &ScopePath::inner(&scope, &*path), &turns.body)?;
         Ok(())
     }
 
     /// Resolves a phrase that may be missing.
     #[cycle(phrases)]
-    fn perhaps(
+    fn perhaps<'t>(
         &mut self,
         frame: Frame,
-        path: &ScopePath,
-        phrase: &Option<Box<Phrase>>,
+        path: &ScopePath<'_, 't>,
+        phrase: &'t Option<Box<Phrase>>,
     ) -> Result<(), AllocError>
         ensures { OnOk result (Adds self.old self.new
-            (perhaps_naming (frame_view frame) (path_view path.now) (optional_tree phrase.now))) }
+            (perhaps_naming (frame_view frame) path.now (optional_tree phrase.now))) }
     {
         match phrase {
             Some(phrase) => self.phrase(frame, path, phrase),
@@ -219,14 +205,14 @@ impl Resolver<'_> {
 
     /// Resolves phrases.
     #[cycle(phrases)]
-    fn phrases(
+    fn phrases<'t>(
         &mut self,
         frame: Frame,
-        path: &ScopePath,
-        phrases: &[Phrase],
+        path: &ScopePath<'_, 't>,
+        phrases: &'t [Phrase],
     ) -> Result<(), AllocError>
         ensures { OnOk result (Adds self.old self.new
-            (phrases_naming (frame_view frame) (path_view path.now) (phrases_of (map tree phrases.now)))) }
+            (phrases_naming (frame_view frame) path.now (phrases_of (map tree phrases.now)))) }
     {
         for phrase in phrases {
             self.phrase(frame, path, phrase)?;
@@ -236,9 +222,14 @@ impl Resolver<'_> {
 
     /// Resolves the statements of a CASE.
     #[cycle(phrases)]
-    fn parts(&mut self, frame: Frame, path: &ScopePath, parts: &[Part]) -> Result<(), AllocError>
+    fn parts<'t>(
+        &mut self,
+        frame: Frame,
+        path: &ScopePath<'_, 't>,
+        parts: &'t [Part],
+    ) -> Result<(), AllocError>
         ensures { OnOk result (Adds self.old self.new
-            (phrases_naming (frame_view frame) (path_view path.now) (phrases_of (map part_tree parts.now)))) }
+            (phrases_naming (frame_view frame) path.now (phrases_of (map part_tree parts.now)))) }
     {
         for part in parts {
             self.part(frame, path, part)?;
@@ -248,9 +239,14 @@ impl Resolver<'_> {
 
     /// Resolves a statement of a CASE.
     #[cycle(phrases)]
-    fn part(&mut self, frame: Frame, path: &ScopePath, part: &Part) -> Result<(), AllocError>
+    fn part<'t>(
+        &mut self,
+        frame: Frame,
+        path: &ScopePath<'_, 't>,
+        part: &'t Part,
+    ) -> Result<(), AllocError>
         ensures { OnOk result (Adds self.old self.new
-            (naming (frame_view frame) (path_view path.now) (part_tree part.now))) }
+            (naming (frame_view frame) path.now (part_tree part.now))) }
     {
         match part {
             Part::Empty(_) => Ok(()),
@@ -260,9 +256,14 @@ impl Resolver<'_> {
 
     /// Resolves the operands of a chain.
     #[cycle(phrases)]
-    fn links(&mut self, frame: Frame, path: &ScopePath, links: &[Link]) -> Result<(), AllocError>
+    fn links<'t>(
+        &mut self,
+        frame: Frame,
+        path: &ScopePath<'_, 't>,
+        links: &'t [Link],
+    ) -> Result<(), AllocError>
         ensures { OnOk result (Adds self.old self.new
-            (links_naming (frame_view frame) (path_view path.now) (links_of (map link_tree links.now)))) }
+            (links_naming (frame_view frame) path.now (links_of (map link_tree links.now)))) }
     {
         for link in links {
             self.phrase(frame, path, &link.right)?;
@@ -272,9 +273,14 @@ impl Resolver<'_> {
 
     /// Resolves the lists behind a name.
     #[cycle(phrases)]
-    fn lists(&mut self, frame: Frame, path: &ScopePath, lists: &[List]) -> Result<(), AllocError>
+    fn lists<'t>(
+        &mut self,
+        frame: Frame,
+        path: &ScopePath<'_, 't>,
+        lists: &'t [List],
+    ) -> Result<(), AllocError>
         ensures { OnOk result (Adds self.old self.new
-            (lists_naming (frame_view frame) (path_view path.now) (lists_of (map list_tree lists.now)))) }
+            (lists_naming (frame_view frame) path.now (lists_of (map list_tree lists.now)))) }
     {
         for list in lists {
             self.list(frame, path, list)?;
@@ -284,9 +290,14 @@ impl Resolver<'_> {
 
     /// Resolves a list behind a name.
     #[cycle(phrases)]
-    fn list(&mut self, frame: Frame, path: &ScopePath, list: &List) -> Result<(), AllocError>
+    fn list<'t>(
+        &mut self,
+        frame: Frame,
+        path: &ScopePath<'_, 't>,
+        list: &'t List,
+    ) -> Result<(), AllocError>
         ensures { OnOk result (Adds self.old self.new
-            (listing_naming (frame_view frame) (path_view path.now) (list_tree list.now))) }
+            (listing_naming (frame_view frame) path.now (list_tree list.now))) }
     {
         match &list.kind {
             ListKind::Actuals(actuals) => self.actuals(frame, path, actuals),
@@ -296,14 +307,14 @@ impl Resolver<'_> {
 
     /// Resolves actuals.
     #[cycle(phrases)]
-    fn actuals(
+    fn actuals<'t>(
         &mut self,
         frame: Frame,
-        path: &ScopePath,
-        actuals: &[Actual],
+        path: &ScopePath<'_, 't>,
+        actuals: &'t [Actual],
     ) -> Result<(), AllocError>
         ensures { OnOk result (Adds self.old self.new
-            (actuals_naming (frame_view frame) (path_view path.now) (actuals_of (map actual_tree actuals.now)))) }
+            (actuals_naming (frame_view frame) path.now (actuals_of (map actual_tree actuals.now)))) }
     {
         for actual in actuals {
             self.actual(frame, path, actual)?;
@@ -313,9 +324,14 @@ impl Resolver<'_> {
 
     /// Resolves an actual.
     #[cycle(phrases)]
-    fn actual(&mut self, frame: Frame, path: &ScopePath, actual: &Actual) -> Result<(), AllocError>
+    fn actual<'t>(
+        &mut self,
+        frame: Frame,
+        path: &ScopePath<'_, 't>,
+        actual: &'t Actual,
+    ) -> Result<(), AllocError>
         ensures { OnOk result (Adds self.old self.new
-            (actual_naming (frame_view frame) (path_view path.now) (actual_tree actual.now))) }
+            (actual_naming (frame_view frame) path.now (actual_tree actual.now))) }
     {
         match actual {
             Actual::Star(_) => Ok(()),
@@ -325,9 +341,14 @@ impl Resolver<'_> {
 
     /// Resolves the phrases of a block.
     #[cycle(phrases)]
-    fn items(&mut self, frame: Frame, path: &ScopePath, items: &[Item]) -> Result<(), AllocError>
+    fn items<'t>(
+        &mut self,
+        frame: Frame,
+        path: &ScopePath<'_, 't>,
+        items: &'t [Item],
+    ) -> Result<(), AllocError>
         ensures { OnOk result (Adds self.old self.new
-            (items_naming (frame_view frame) (path_view path.now) (items_of (map item_tree items.now)))) }
+            (items_naming (frame_view frame) path.now (items_of (map item_tree items.now)))) }
     {
         for item in items {
             self.item(frame, path, item)?;
@@ -338,9 +359,14 @@ impl Resolver<'_> {
     /// Resolves a phrase of a block.
     #[cycle(phrases)]
     #[tactic(auto, using(crate::proofs::Arms::labelled_is))]
-    fn item(&mut self, frame: Frame, path: &ScopePath, item: &Item) -> Result<(), AllocError>
+    fn item<'t>(
+        &mut self,
+        frame: Frame,
+        path: &ScopePath<'_, 't>,
+        item: &'t Item,
+    ) -> Result<(), AllocError>
         ensures { OnOk result (Adds self.old self.new
-            (item_naming (frame_view frame) (path_view path.now) (item_tree item.now))) }
+            (item_naming (frame_view frame) path.now (item_tree item.now))) }
     {
         match item {
             Item::Empty(_) => Ok(()),
@@ -351,9 +377,14 @@ impl Resolver<'_> {
 
     /// Resolves the bounds of arrays.
     #[cycle(phrases)]
-    fn bounds(&mut self, frame: Frame, path: &ScopePath, bounds: &[Bound]) -> Result<(), AllocError>
+    fn bounds<'t>(
+        &mut self,
+        frame: Frame,
+        path: &ScopePath<'_, 't>,
+        bounds: &'t [Bound],
+    ) -> Result<(), AllocError>
         ensures { OnOk result (Adds self.old self.new
-            (bounds_naming (frame_view frame) (path_view path.now) (bounds_of (map bound_tree bounds.now)))) }
+            (bounds_naming (frame_view frame) path.now (bounds_of (map bound_tree bounds.now)))) }
     {
         for bound in bounds {
             self.both(frame, path, &bound.lower, &bound.upper)?;
@@ -363,36 +394,34 @@ impl Resolver<'_> {
 
     /// Resolves a block.
     #[cycle(phrases)]
-    fn block(
+    fn block<'t>(
         &mut self,
         frame: Frame,
-        path: &ScopePath,
-        decls: &[Decl],
-        items: &[Item],
+        path: &ScopePath<'_, 't>,
+        block: &'t Block,
     ) -> Result<(), AllocError>
-        ensures { OnOk result (Adds self.old self.new
-            (block_naming (frame_view frame) (path_view path.now)
-            (decls_of (map decl_tree decls.now)) (items_of (map item_tree items.now)))) }
+        ensures { (place : Place) → OnOk result (Adds self.old self.new
+            (kind_naming (frame_view frame) path.now place (block_tree block.now))) }
     {
-        let scope = block_scope(self.alloc, decls, items)?;
+        let scope = block_scope(self.alloc, &block.decls, &block.items)?;
         let inner = self.declares(frame, &scope)?;
-        let own = ScopePath::Inner(&scope, &*path);
-        self.decls(inner, &*path, &own, decls)?;
-        self.items(inner, &own, items)?;
+        let own = ScopePath::inner(&scope, &*path);
+        self.decls(inner, &*path, &own, &block.decls)?;
+        self.items(inner, &own, &block.items)?;
         Ok(())
     }
 
     /// Resolves declarations: bounds in the scopes around them, all else in their own.
     #[cycle(phrases)]
-    fn decls(
+    fn decls<'t>(
         &mut self,
         frame: Frame,
-        around: &ScopePath,
-        path: &ScopePath,
-        decls: &[Decl],
+        around: &ScopePath<'_, 't>,
+        path: &ScopePath<'_, 't>,
+        decls: &'t [Decl],
     ) -> Result<(), AllocError>
         ensures { OnOk result (Adds self.old self.new
-            (decls_naming (frame_view frame) (path_view around.now) (path_view path.now)
+            (decls_naming (frame_view frame) around.now path.now
             (decls_of (map decl_tree decls.now)))) }
     {
         for decl in decls {
@@ -403,15 +432,15 @@ impl Resolver<'_> {
 
     /// Resolves a declaration.
     #[cycle(phrases)]
-    fn decl(
+    fn decl<'t>(
         &mut self,
         frame: Frame,
-        around: &ScopePath,
-        path: &ScopePath,
-        decl: &Decl,
+        around: &ScopePath<'_, 't>,
+        path: &ScopePath<'_, 't>,
+        decl: &'t Decl,
     ) -> Result<(), AllocError>
         ensures { OnOk result (Adds self.old self.new
-            (decl_naming (frame_view frame) (path_view around.now) (path_view path.now) (decl_tree decl.now))) }
+            (decl_naming (frame_view frame) around.now path.now (decl_tree decl.now))) }
     {
         match decl {
             Decl::Simple(_, _) => Ok(()),
@@ -423,18 +452,18 @@ impl Resolver<'_> {
 
     /// Resolves a procedure.
     #[cycle(phrases)]
-    fn procedure(
+    fn procedure<'t>(
         &mut self,
         frame: Frame,
-        path: &ScopePath,
-        procedure: &ProcDecl,
+        path: &ScopePath<'_, 't>,
+        procedure: &'t ProcDecl,
     ) -> Result<(), AllocError>
         ensures { OnOk result (Adds self.old self.new
-            (decl_naming (frame_view frame) (path_view path.now) (path_view path.now) (procedure_tree procedure.now))) }
+            (decl_naming (frame_view frame) path.now path.now (procedure_tree procedure.now))) }
     {
         let scope = formal_scope(self.alloc, &procedure.formals)?;
         let inner = self.declares(frame.of_procedure()?, &scope)?;
-        self.phrase(inner, &ScopePath::Inner(&scope, &*path), &procedure.body)?;
+        self.phrase(inner, &ScopePath::inner(&scope, &*path), &procedure.body)?;
         Ok(())
     }
 }

@@ -2,15 +2,16 @@ ghost use Rattle.std.specs.Prelude.{◌≡◌, ◌++◌, ◌+◌, ◌<◌, ◌^�
 ghost use Rattle.algolw_tree.specs.View.{class_tree};
 ghost use Rattle.algolw_typing.specs.Naming.{class_naming, declares, infos, inside};
 ghost use Rattle.block_scopes.specs.Adding.{Adds, frame_view};
-ghost use Rattle.name_scopes.specs.Paths.{path_view};
+ghost use Rattle.name_scopes.specs.Firsts.{lent};
 
 use crate::classes::{FoundClass, class_fields};
 use crate::frame::Frame;
-use algolw_tree::{ClassDecl, NameInfo};
+use crate::names::name_of;
+use algolw_tree::{ClassDecl, NameInfo, Spelling};
 use bumpalo::Bump;
 use name_scopes::{Scope, ScopePath};
 use std::alloc::{AllocError, Global};
-use value_ops::{Name, Place};
+use value_ops::Place;
 
 /// What was found of a program so far.
 #[derive(Drop)]
@@ -51,13 +52,13 @@ impl<'a> Resolver<'a> {
 
     /// Notes a record class.
     pub fn class(&mut self, path: &ScopePath, class: &ClassDecl) -> Result<(), AllocError>
-        ensures { OnOk result (Adds self.old self.new (class_naming (path_view path.now) (class_tree class.now))) }
+        ensures { OnOk result (Adds self.old self.new (class_naming path.now (class_tree class.now))) }
     {
         let fields = class_fields(self.alloc, self.arena, path, &class.groups)?;
-        let (name, place) = class.name;
+        let (name, place) = &class.name;
         self.classes.push(FoundClass {
-            place,
-            name,
+            place: *place,
+            name: name_of(name)?,
             fields,
         })?;
         Ok(())
@@ -68,14 +69,14 @@ impl<'a> Resolver<'a> {
 fn add_names(
     found: &mut Vec<NameInfo>,
     frame: Frame,
-    names: &[(Name, Place)],
+    names: &[(&Spelling, Place)],
 ) -> Result<(), AllocError>
     requires { frame.slot + length names.now < 2 ^ 32 }
-    ensures { OnOk result (found.new.items ≡ found.old.items ++ infos (frame_view frame) names.now) }
+    ensures { OnOk result (found.new.items ≡ found.old.items ++ infos (frame_view frame) (lent names.now)) }
 {
     for (position, (name, place)) in names.iter().enumerate() {
         found.push(NameInfo {
-            name: *name,
+            name: name_of(name)?,
             place: *place,
             level: frame.level,
             slot: frame.slot + position as u32,

@@ -35,7 +35,7 @@ pub fn resolve<'a>(
         level: 0,
         slot: STANDARD_NAMES.len() as u32,
     };
-    resolver.phrase(frame, &ScopePath::Standard, phrase)?;
+    resolver.phrase(frame, &ScopePath::standard(), phrase)?;
     let Resolver {
         alloc: _,
         arena: _,

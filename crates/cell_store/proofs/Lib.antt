@@ -1,4 +1,5 @@
 pub mod CellLines
+pub mod MachineWords
 pub mod Counting
 pub mod Indexing
 pub mod Placing

@@ -1,4 +1,5 @@
 pub mod Arrays
+pub mod Words
 pub mod Cells
 pub mod Stores
 pub mod Held

@@ -1,4 +1,4 @@
-ghost use Rattle.std.specs.Prelude.{◌≡◌, ◌≤◌, length, false, is_some, IfSome};
+ghost use Rattle.std.specs.Prelude.{◌≡◌, ◌≤◌, length, false, Some, is_some, IfSome};
 ghost use Rattle.cell_store.specs.Cells.{text_over};
 ghost use Rattle.value_ops.specs.Strings.{filled};
 
@@ -9,9 +9,9 @@ use value_ops::{RecordId, SimpleType, Text};
 #[derive(Clone, Copy)]
 pub enum Variable {
     /// In the cell of this number.
-    Cell(u16),
+    Cell(u32),
     /// In the field of this number among those of all records.
-    Field(u16),
+    Field(u32),
 }
 
 /// A part of a string variable, as a place to assign to.
@@ -49,21 +49,76 @@ pub struct Procedure {
     pub link: Option<u32>,
 }
 
-/// What a cell holds where a machine word has room for it.
+/// What a cell holds, or what is held, in a machine word. Contracts see what it is by `word_of`.
 #[derive(Clone, Copy)]
 pub enum Word {
     /// Nothing: a variable has no value yet.
     Nothing,
     /// An INTEGER.
     Integer(i32),
-    /// A LOGICAL.
-    Logical(bool),
+    /// TRUE.
+    True,
+    /// FALSE.
+    False,
     /// BITS.
     Bits(u32),
+    /// NULL.
+    Null,
+    /// A record, told by 16 bits. (All have their number in the same four bytes, so that a word is copied in two parts.)
+    Record(u32),
+    /// The place of the variable in the cell of this number.
+    Cell(u32),
+    /// The place of the variable in the field of this number among those of all records.
+    Field(u32),
+    /// What a machine word has no room for: it stands beside.
+    Wide,
+}
+
+impl Word {
+    ghost use Rattle.cell_store.specs.Words as words;
+
+    /// A LOGICAL.
+    #[inline(always)]
+    #[tactic(auto, using(crate::proofs::MachineWords::logical_back, crate::proofs::MachineWords::logical_narrow))]
+    pub fn logical(truth: bool) -> Word
+        ensures is { result ≡ words.machine_word (words.Logical truth) }
+        ensures word { words.word_of result ≡ Some (words.Logical truth) }
+        ensures narrow { words.is_wide result ≡ false }
+    {
+        if truth { Word::True } else { Word::False }
+    }
+
     /// A record, or NULL.
-    Reference(Option<RecordId>),
-    /// The place of a variable.
-    Place(Variable),
+    #[inline(always)]
+    pub fn reference(id: Option<RecordId>) -> Word
+        ensures is { result ≡ words.machine_word (words.Reference id) }
+        ensures word { words.word_of result ≡ Some (words.Reference id) }
+        ensures narrow { words.is_wide result ≡ false }
+    {
+        match id {
+            Some(id) => Word::Record(u32::from(id.0)),
+            None => Word::Null,
+        }
+    }
+
+    /// The record that 16 bits of a number tell.
+    #[inline(always)]
+    pub fn told(number: u32) -> RecordId
+        ensures { result ≡ words.told number }
+    {
+        RecordId((number % 65536) as u16)
+    }
+
+    /// Whether what it is stands beside.
+    #[inline(always)]
+    pub fn is_wide(self) -> bool
+        ensures { result ≡ words.is_wide self }
+    {
+        match self {
+            Word::Wide => true,
+            _ => false,
+        }
+    }
 }
 
 /// Pairs of bounds, behind which others stand that count for nothing.

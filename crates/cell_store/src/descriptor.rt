@@ -1,4 +1,5 @@
-ghost use Rattle.std.specs.Prelude.{◌≡◌, ◌≤◌, ◌<◌, ◌+◌, ℕ, List, length, map, min, IfOk, IfSome};
+ghost use Rattle.std.specs.Prelude.{◌≡◌, ◌≤◌, ◌<◌, ◌+◌, ℕ, List, length, map, min, IfOk, IfSome, slice_get};
+ghost use Rattle.std.specs.Option.{option_or};
 ghost use Rattle.cell_store.specs.Arrays.{dimension, elements, extent, index_of, subarray_of, is_within};
 ghost use Rattle.cell_store.specs.Held.{further};
 
@@ -92,7 +93,7 @@ impl Descriptor {
         let mut offset = 0;
         let mut next = 0;
         for dimension in self.dimensions() {
-            let subscript = dimension.given.or(item_at(subscripts, next));
+            let subscript = chosen(dimension.given, subscripts, next);
             next += usize::from(dimension.given.is_none());
             let Some(further) = dimension.further(subscript, offset) else {
                 return Err(Fault::SubscriptOutsideBounds);
@@ -121,5 +122,16 @@ impl Descriptor {
             dimensions,
             ..*self
         })
+    }
+}
+
+/// The subscript of a dimension: what is given of it, or else the one of this number.
+#[inline(always)]
+fn chosen(given: Option<i32>, subscripts: &[i32], number: usize) -> Option<i32>
+    ensures { result ≡ option_or given (slice_get subscripts.now number) }
+{
+    match given {
+        Some(given) => Some(given),
+        None => item_at(subscripts, number),
     }
 }

@@ -1,4 +1,4 @@
-ghost use Rattle.std.specs.Prelude.{◌≡◌, ◌≤◌, true, map, min};
+ghost use Rattle.std.specs.Prelude.{◌≡◌, ◌≤◌, Some, None, IfSome, if◌then◌else◌, map, min};
 ghost use Rattle.cell_store.specs.Arrays.{dimension, elements, extent, is_within, place};
 ghost use Rattle.cell_store.specs.Held.{further};
 
@@ -63,15 +63,21 @@ impl Dimension {
         }
     }
 
-    /// How many subscripts are below one that is within the bounds, none where none is given.
-    fn place(self, subscript: Option<i32>) -> u64
-        requires { is_within self subscript ≡ true }
-        ensures value { result ≡ place self subscript }
-        ensures most { result ≤ 4294967295 }
+    /// How many subscripts are below one, none where none is given. None exactly where it is outside the bounds.
+    #[inline(always)]
+    fn place(self, subscript: Option<i32>) -> Option<u64>
+        ensures value { result ≡ (if is_within self subscript then Some (place self subscript) else None) }
+        ensures most { IfSome result (λ n. n ≤ 4294967295) }
     {
         match subscript {
-            Some(subscript) => u64::from(subscript.abs_diff(self.lower)),
-            None => 0,
+            Some(subscript) => {
+                if self.lower <= subscript && subscript <= self.upper {
+                    Some(u64::from(subscript.abs_diff(self.lower)))
+                } else {
+                    None
+                }
+            }
+            None => Some(0),
         }
     }
 
@@ -81,10 +87,8 @@ impl Dimension {
         requires { offset ≤ 32768 }
         ensures { result ≡ further self subscript offset }
     {
-        if !self.is_within(subscript) {
-            return None;
-        }
-        Some(capped(u64::from(offset) * self.extent() + self.place(subscript)))
+        let below = self.place(subscript)?;
+        Some(capped(u64::from(offset) * self.extent() + below))
     }
 }
 

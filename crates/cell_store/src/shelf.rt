@@ -1,7 +1,8 @@
 ghost use Rattle.std.specs.Prelude.{◌≡◌, ◌+◌, ◌≤◌, ◌<◌, [], ◌∷◌, ◌++◌, length, take, replicate, max, IfOk, IfSome, OnErr, OnOk, false, is_some, option_copied, slice_get, slice_set, vec_capacity};
 ghost use Rattle.std.specs.Option.{option_and_then};
-ghost use Rattle.cell_store.specs.Cells.{a_word, a_wide, word_in, wide_in, text_over, nothing};
-ghost use Rattle.cell_store.specs.Held.{beside_at};
+ghost use Rattle.cell_store.specs.Cells.{a_wide, word_in, wide_in, text_over, nothing};
+ghost use Rattle.cell_store.specs.Words.{word_of, is_wide};
+ghost use Rattle.cell_store.specs.Held.{beside_at, word_cell};
 ghost use Rattle.value_ops.specs.Strings.{filled};
 
 use crate::cells::{Wide, Word};
@@ -13,8 +14,8 @@ use std::marker::Model;
 /// memory.
 #[derive(Drop)]
 pub(crate) struct Shelf {
-    /// The words; none where what the cell holds stands beside.
-    words: Vec<Option<Word>>,
+    /// The words; `Wide` where what the cell holds stands beside.
+    words: Vec<Word>,
     /// What is too wide for a word, at the number of its cell; made as far as it was needed.
     beside: Vec<Wide>,
     room: u32,
@@ -79,21 +80,24 @@ impl Shelf {
         self.room
     }
 
-    /// What a cell holds, where that is a word.
+    /// What a cell holds, where that is a word; `Wide` where it is none.
     #[inline(always)]
     #[tactic(auto, using(crate::proofs::CellLines::word_at))]
-    pub fn word(&self, at: u32) -> Option<Word>
-        ensures { result ≡ option_and_then word_in (slice_get self.now.cells at) }
+    pub fn word(&self, at: u32) -> Word
+        ensures { word_of result ≡ option_and_then word_in (slice_get self.now.cells at) }
     {
-        item_at(&self.words, at as usize)?
+        match item_at(&self.words, at as usize) {
+            Some(word) => word,
+            None => Word::Wide,
+        }
     }
 
-    /// What a cell that is there holds, where that is a word.
+    /// What a cell that is there holds, where that is a word; `Wide` where it is none.
     #[inline(always)]
     #[tactic(auto, using(crate::proofs::CellLines::length_cells, crate::proofs::CellLines::word_there))]
-    pub fn word_there(&self, at: u32) -> Option<Word>
+    pub fn word_there(&self, at: u32) -> Word
         requires { at < length self.now.cells }
-        ensures { result ≡ option_and_then word_in (slice_get self.now.cells at) }
+        ensures { word_of result ≡ option_and_then word_in (slice_get self.now.cells at) }
     {
         item_there(&self.words, at as usize)
     }
@@ -104,7 +108,7 @@ impl Shelf {
     pub fn wide(&self, at: u32) -> Option<&Wide>
         ensures { option_copied result ≡ option_and_then wide_in (slice_get self.now.cells at) }
     {
-        if item_at(&self.words, at as usize)?.is_none() {
+        if item_at(&self.words, at as usize)?.is_wide() {
             ref_at(&self.beside, at as usize)
         } else {
             None
@@ -115,10 +119,11 @@ impl Shelf {
     #[inline(always)]
     #[tactic(auto, using(crate::proofs::CellLines::length_cells, crate::proofs::CellLines::cells_push, crate::proofs::CellLines::beside_push))]
     pub fn push(&mut self, held: Word)
-        requires { length self.old.cells < self.old.room }
-        ensures { self.new ≡ record self.old { cells = self.old.cells ++ a_word held ∷ [] } }
+        requires room { length self.old.cells < self.old.room }
+        requires word { is_wide held ≡ false }
+        ensures { self.new ≡ record self.old { cells = self.old.cells ++ word_cell held ∷ [] } }
     {
-        self.words.push_reserved(Some(held));
+        self.words.push_reserved(held);
     }
 
     /// A cell more, which holds this.
@@ -130,7 +135,7 @@ impl Shelf {
         let at = self.words.len();
         fill_up(&mut self.beside, at + 1);
         self.beside[at].copy_from(held);
-        self.words.push_reserved(None);
+        self.words.push_reserved(Word::Wide);
     }
 
     /// So many cells more, which hold nothing.
@@ -147,10 +152,11 @@ impl Shelf {
     #[inline(always)]
     #[tactic(auto, using(crate::proofs::CellLines::length_cells, crate::proofs::CellLines::cells_set, crate::proofs::CellLines::beside_set, crate::proofs::CellLines::length_set_words))]
     pub fn set(&mut self, at: u32, held: Word)
-        requires { at < length self.old.cells }
-        ensures { self.new ≡ record self.old { cells = slice_set self.old.cells at (a_word held) } }
+        requires there { at < length self.old.cells }
+        requires word { is_wide held ≡ false }
+        ensures { self.new ≡ record self.old { cells = slice_set self.old.cells at (word_cell held) } }
     {
-        self.words[at as usize] = Some(held);
+        self.words[at as usize] = held;
     }
 
     /// The cell of this number holds this from now on.
@@ -161,7 +167,7 @@ impl Shelf {
     {
         fill_up(&mut self.beside, at as usize + 1);
         self.beside[at as usize].copy_from(held);
-        self.words[at as usize] = None;
+        self.words[at as usize] = Word::Wide;
     }
 
     /// The cell of this number holds a string of these characters from now on, filled with blanks to a length.
@@ -174,7 +180,7 @@ impl Shelf {
     {
         fill_up(&mut self.beside, at as usize + 1);
         self.beside[at as usize].set_filled(characters, count);
-        self.words[at as usize] = None;
+        self.words[at as usize] = Word::Wide;
     }
 
     /// Characters of the string in a cell, from a place on, become these. False exactly where the cell holds no string
@@ -203,11 +209,11 @@ impl Shelf {
 
 /// Whether what the cell of this number holds stands beside.
 #[inline(always)]
-fn is_beside_at(words: &[Option<Word>], at: usize) -> bool
+fn is_beside_at(words: &[Word], at: usize) -> bool
     ensures { result ≡ beside_at words.now at }
 {
     match item_at(words, at) {
-        Some(word) => word.is_none(),
+        Some(word) => word.is_wide(),
         None => false,
     }
 }

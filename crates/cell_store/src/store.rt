@@ -1,6 +1,8 @@
 ghost use Rattle.std.specs.Prelude.{◌≡◌, ◌≤◌, ◌<◌, ◌+◌, ◌-◌, ℕ, [], ◌∷◌, ◌++◌, Some, None, Ok, Err, IfOk, IfSome, OnOk, OnErr, length, take, max, false, is_some, nat_lt, if◌then◌else◌, option_copied, slice_get, slice_set};
 ghost use Rattle.std.specs.Option.{option_and_then};
-ghost use Rattle.cell_store.specs.Cells.{a_word, a_wide, word_in, wide_in, text_over, nothing};
+ghost use Rattle.cell_store.specs.Cells.{a_wide, word_in, wide_in, text_over, nothing};
+ghost use Rattle.cell_store.specs.Words.{word_of, is_wide};
+ghost use Rattle.cell_store.specs.Held.{word_cell};
 ghost use Rattle.value_ops.specs.Strings.{filled};
 ghost use Rattle.cell_store.specs.Stores.{empty, cells_allowed, with_cells, with_cell_at, array_allowed, new_array, array_cells, entered, text_allowed, newest, left, cut_back};
 
@@ -129,19 +131,19 @@ impl Store {
         self.cells.len()
     }
 
-    /// What a cell holds, where it is live and that is a word.
+    /// What a cell holds, where it is live and that is a word; else `Wide`.
     #[inline(always)]
-    pub fn cell(&self, at: u32) -> Option<Word>
-        ensures { result ≡ option_and_then word_in (slice_get self.now.cells at) }
+    pub fn cell(&self, at: u32) -> Word
+        ensures { word_of result ≡ option_and_then word_in (slice_get self.now.cells at) }
     {
         self.cells.word(at)
     }
 
-    /// What a cell that is live holds, where that is a word.
+    /// What a cell that is live holds, where that is a word; else `Wide`.
     #[inline(always)]
-    pub fn live_cell(&self, at: u32) -> Option<Word>
+    pub fn live_cell(&self, at: u32) -> Word
         requires { at < length self.now.cells }
-        ensures { result ≡ option_and_then word_in (slice_get self.now.cells at) }
+        ensures { word_of result ≡ option_and_then word_in (slice_get self.now.cells at) }
     {
         self.cells.word_there(at)
     }
@@ -165,8 +167,9 @@ impl Store {
     /// A cell more, which holds this. L3 exactly where 32,768 are live.
     #[inline(always)]
     pub fn push(&mut self, held: Word) -> Result<(), Limit>
+        requires { is_wide held ≡ false }
         ensures answer { result ≡ cells_allowed 1 self.old }
-        ensures pushed { OnOk result (self.new ≡ with_cells (a_word held ∷ []) self.old) }
+        ensures pushed { OnOk result (self.new ≡ with_cells (word_cell held ∷ []) self.old) }
         ensures unchanged { OnErr result (self.new ≡ self.old) }
     {
         if self.cells.len() >= MOST_CELLS {
@@ -214,8 +217,9 @@ impl Store {
     /// A live cell holds this from now on.
     #[inline(always)]
     pub fn set_cell(&mut self, at: u32, held: Word)
-        requires { at < length self.old.cells }
-        ensures { self.new ≡ with_cell_at at (a_word held) self.old }
+        requires there { at < length self.old.cells }
+        requires word { is_wide held ≡ false }
+        ensures { self.new ≡ with_cell_at at (word_cell held) self.old }
     {
         self.cells.set(at, held);
     }
@@ -393,9 +397,9 @@ impl Store {
         self.depth = mark.depth;
     }
 
-    /// What a text under way has given, where that is a word.
-    pub fn answer(&self, at: u32) -> Option<Word>
-        ensures { result ≡ option_and_then word_in (slice_get self.now.answers at) }
+    /// What a text under way has given, where that is a word; else `Wide`.
+    pub fn answer(&self, at: u32) -> Word
+        ensures { word_of result ≡ option_and_then word_in (slice_get self.now.answers at) }
     {
         self.answers.word(at)
     }
@@ -409,8 +413,9 @@ impl Store {
 
     /// A text under way has given this.
     pub fn set_answer(&mut self, at: u32, held: Word)
-        requires { at < length self.old.frames }
-        ensures { self.new ≡ record self.old { answers = slice_set self.old.answers at (a_word held) } }
+        requires there { at < length self.old.frames }
+        requires word { is_wide held ≡ false }
+        ensures { self.new ≡ record self.old { answers = slice_set self.old.answers at (word_cell held) } }
     {
         self.answers.set(at, held);
     }

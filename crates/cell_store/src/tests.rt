@@ -156,9 +156,9 @@ fn refused(answer: Result<(), Refusal>) -> i32 {
 }
 
 /// The number that a word is.
-fn word_number(word: Option<Word>) -> i32 {
+fn word_number(word: Word) -> i32 {
     match word {
-        Some(Word::Integer(number)) => number,
+        Word::Integer(number) => number,
         _ => NONE,
     }
 }

@@ -1,4 +1,5 @@
 pub mod Again
 pub mod Bounding
 pub mod Knowing
+pub mod Passing
 pub mod Placing

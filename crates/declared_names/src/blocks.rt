@@ -1,4 +1,4 @@
-ghost use Rattle.std.specs.Prelude.{◌≡◌, ◌++◌, ◌∷◌, [], None, IfOk, OnOk, map};
+ghost use Rattle.std.specs.Prelude.{◌≡◌, ◌++◌, ◌∷◌, [], None, Some, IfOk, OnOk, map};
 ghost use Rattle.algolw_tree.specs.Grammar.{decls_of, items_of};
 ghost use Rattle.algolw_tree.specs.View.{class_tree, decl_tree, item_tree, procedure_tree, spec_tree};
 ghost use Rattle.algolw_typing.specs.Actuals as actuals;
@@ -9,19 +9,19 @@ ghost use Rattle.algolw_typing.specs.Typing as rules;
 ghost use Rattle.algolw_typing.specs.Verdicts as verdicts;
 ghost use Rattle.typing_rules.specs.View as view;
 ghost use Rattle.declared_names.specs.Blocks.{bounds_view, decl_bounds, DeclFound};
-ghost use Rattle.declared_names.specs.KnownPaths.{path_view};
 
 use crate::declarations::{
-    declare_class, declare_names, dimension_fault, draft_groups, formal_faults, formal_types, good,
-    group_faults, places, result_faults, result_type, spec_faults, spec_type,
+    declare_alike, declare_class, declare_names, dimension_fault, draft_groups, formal_faults,
+    formal_types, good, group_faults, places, result_faults, result_type, spec_faults, spec_type,
 };
-use crate::known::{Known, KnownPath, KnownScope};
-use algolw_tree::{ClassDecl, Decl, Item, Names, ProcDecl, TypeSpec};
+use crate::known::{Declared, Facts, KnownScope};
+use crate::path::KnownPath;
+use algolw_tree::{ClassDecl, Decl, Item, Names, ProcDecl, Spelling, TypeSpec};
 use bumpalo::Bump;
 use std::alloc::{AllocError, Global};
 use typed_drafts::{DraftBound, DraftClass, DraftDecl};
 use typing_rules::{Meaning, NoType, Reading, Verdict, bound_row};
-use value_ops::{Diagnostic, Name, Place};
+use value_ops::{Diagnostic, Place};
 
 /// What is found of the bounds of a declaration, with their faults.
 #[derive(Clone, Copy)]
@@ -44,41 +44,51 @@ pub fn no_bounds<'a>() -> Bounds<'a>
 
 // ---- the names of a block, before anything is known of what they mean
 
+/// Declares names of which nothing is known.
+fn name_all<'t>(
+    names: &'t [(Spelling, Place)],
+    scope: &mut KnownScope<'t, '_>,
+) -> Result<(), AllocError>
+    ensures { OnOk result (scope.new ≡ scope.old ++ scopes.entries names.now None) }
+{
+    declare_alike(names, Facts::Nothing, scope)
+}
+
 /// Declares the fields of a class, of which nothing is known.
 #[tactic(auto, using(crate::proofs::Placing::entries_append))]
-fn name_fields(class: &ClassDecl, scope: &mut KnownScope) -> Result<(), AllocError>
+fn name_fields<'t>(class: &'t ClassDecl, scope: &mut KnownScope<'t, '_>) -> Result<(), AllocError>
     ensures { OnOk result (scope.new ≡ scope.old
         ++ scopes.entries (scopes.group_names (class_tree class.now).groups) None) }
 {
     for (_, names) in &class.groups {
-        declare_names(names, None, scope)?;
+        name_all(names, scope)?;
     }
     Ok(())
 }
 
 /// Declares a name of which nothing is known but whether it is a class.
-fn name_alone(
-    name: &(Name, Place),
+fn name_alone<'t>(
+    name: &'t (Spelling, Place),
     is_class: bool,
-    scope: &mut KnownScope,
+    scope: &mut KnownScope<'t, '_>,
 ) -> Result<(), AllocError>
     ensures { OnOk result (scope.new ≡ scope.old ++ scopes.known name.now is_class actuals.as_phrases None ∷ []) }
 {
-    let known = Known {
-        place: name.1,
-        is_class,
-        reading: Reading::AsPhrases,
-        means: None,
+    let facts = if is_class {
+        Facts::Class
+    } else {
+        Facts::Nothing
     };
-    scope.declare(name.0, known)
+    let (name, place) = name;
+    scope.declare(name, *place, facts)
 }
 
 /// Declares the names of a declaration, of which nothing is known.
-fn name_decl(decl: &Decl, scope: &mut KnownScope) -> Result<(), AllocError>
+fn name_decl<'t>(decl: &'t Decl, scope: &mut KnownScope<'t, '_>) -> Result<(), AllocError>
     ensures { OnOk result (scope.new ≡ scope.old ++ scopes.names_of_decl (decl_tree decl.now)) }
 {
     match decl {
-        Decl::Simple(_, names) | Decl::Array(_, names, _) => declare_names(names, None, scope),
+        Decl::Simple(_, names) | Decl::Array(_, names, _) => name_all(names, scope),
         Decl::Proc(procedure) => name_alone(&procedure.name, false, scope),
         Decl::Class(class) => {
             name_alone(&class.name, true, scope)?;
@@ -87,20 +97,33 @@ fn name_decl(decl: &Decl, scope: &mut KnownScope) -> Result<(), AllocError>
     }
 }
 
+/// Declares the labels of a phrase.
+fn declare_labelled<'t>(
+    labels: &'t [(Spelling, Place)],
+    scope: &mut KnownScope<'t, '_>,
+) -> Result<(), AllocError>
+    ensures { OnOk result (scope.new ≡ scope.old ++ scopes.entries labels.now (Some meanings.a_label)) }
+{
+    declare_alike(labels, Facts::Label, scope)
+}
+
 /// Declares labels.
-pub fn declare_labels(items: &[Item], scope: &mut KnownScope) -> Result<(), AllocError>
+pub fn declare_labels<'t>(
+    items: &'t [Item],
+    scope: &mut KnownScope<'t, '_>,
+) -> Result<(), AllocError>
     ensures { OnOk result (scope.new ≡ scope.old ++ scopes.label_entries (items_of (map item_tree items.now))) }
 {
     for item in items {
         if let Item::Labelled(labelled) = item {
-            declare_names(&labelled.labels, Some(Meaning::Label), scope)?;
+            declare_labelled(&labelled.labels, scope)?;
         }
     }
     Ok(())
 }
 
 /// Declares the names of declarations, of which nothing is known.
-fn name_decls(decls: &[Decl], scope: &mut KnownScope) -> Result<(), AllocError>
+fn name_decls<'t>(decls: &'t [Decl], scope: &mut KnownScope<'t, '_>) -> Result<(), AllocError>
     ensures { OnOk result (scope.new ≡ scope.old ++ scopes.names_of_decls (decls_of (map decl_tree decls.now))) }
 {
     for decl in decls {
@@ -110,11 +133,11 @@ fn name_decls(decls: &[Decl], scope: &mut KnownScope) -> Result<(), AllocError>
 }
 
 /// The names of a block as they stand in it, before anything is known of what they mean.
-pub fn names_of_block<'a>(
+pub fn names_of_block<'t, 'a>(
     alloc: Global,
-    decls: &[Decl],
-    items: &[Item],
-) -> Result<KnownScope<'a>, AllocError>
+    decls: &'t [Decl],
+    items: &'t [Item],
+) -> Result<KnownScope<'t, 'a>, AllocError>
     ensures { IfOk result (λ s. s ≡ scopes.names_of_block (decls_of (map decl_tree decls.now))
         (items_of (map item_tree items.now))) }
 {
@@ -127,40 +150,40 @@ pub fn names_of_block<'a>(
 // ---- what its declarations make of its names
 
 /// Declares simple variables.
-fn declare_simple<'a>(
+fn declare_simple<'t, 'a>(
     alloc: Global,
     arena: &'a Bump,
-    path: &KnownPath<'_, 'a>,
+    path: &KnownPath<'_, '_, 'a>,
     spec: &TypeSpec,
-    names: &Names,
-    scope: &mut KnownScope<'a>,
+    names: &'t Names,
+    scope: &mut KnownScope<'t, 'a>,
 ) -> Result<(), AllocError>
     ensures { OnOk result (scope.new ≡ scope.old
-        ++ scopes.entries names.now.items (scopes.good (scopes.spec_faults (path_view path.now) (spec_tree spec.now))
-        (meanings.a_variable (scopes.spec_type (path_view path.now) (spec_tree spec.now))))) }
+        ++ scopes.entries names.now.items (scopes.good (scopes.spec_faults path.now (spec_tree spec.now))
+        (meanings.a_variable (scopes.spec_type path.now (spec_tree spec.now))))) }
 {
     let mut faults = Vec::new(alloc);
     spec_faults(path, spec, &mut faults)?;
     let variable = Meaning::Variable(spec_type(arena, path, spec)?);
-    declare_names(names, good(&faults, variable), scope)
+    declare_names(arena, names, good(&faults, variable), scope)
 }
 
 /// Declares arrays of so many dimensions, in whose bounds these faults were found.
-fn declare_array<'a>(
+fn declare_array<'t, 'a>(
     alloc: Global,
     arena: &'a Bump,
-    path: &KnownPath<'_, 'a>,
+    path: &KnownPath<'_, '_, 'a>,
     spec: &TypeSpec,
-    names: &Names,
+    names: &'t Names,
     dimensions: usize,
     found: &[Diagnostic],
-    scope: &mut KnownScope<'a>,
+    scope: &mut KnownScope<'t, 'a>,
 ) -> Result<(), AllocError>
     ensures { OnOk result (scope.new ≡ scope.old
         ++ scopes.entries names.now.items (scopes.good
-        (rules.array_faults (path_view path.now) (spec_tree spec.now) names.now.items dimensions
+        (rules.array_faults path.now (spec_tree spec.now) names.now.items dimensions
         ++ scopes.without_twice found.now) (meanings.an_array
-        (scopes.spec_type (path_view path.now) (spec_tree spec.now)) dimensions))) }
+        (scopes.spec_type path.now (spec_tree spec.now)) dimensions))) }
 {
     let Ok(count) = u32::try_from(dimensions) else {
         return Err(AllocError);
@@ -170,7 +193,7 @@ fn declare_array<'a>(
     dimension_fault(names, dimensions, &mut faults)?;
     add_without_twice(found, &mut faults)?;
     let array = Meaning::Array(spec_type(arena, path, spec)?, count);
-    declare_names(names, good(&faults, array), scope)
+    declare_names(arena, names, good(&faults, array), scope)
 }
 
 /// Adds the faults that make a declaration faulty: all but 31.
@@ -186,41 +209,41 @@ fn add_without_twice(found: &[Diagnostic], faults: &mut Vec<Diagnostic>) -> Resu
 }
 
 /// Declares a procedure.
-fn declare_procedure<'a>(
+fn declare_procedure<'t, 'a>(
     alloc: Global,
     arena: &'a Bump,
-    path: &KnownPath<'_, 'a>,
-    procedure: &ProcDecl,
-    scope: &mut KnownScope<'a>,
+    path: &KnownPath<'_, '_, 'a>,
+    procedure: &'t ProcDecl,
+    scope: &mut KnownScope<'t, 'a>,
 ) -> Result<(), AllocError>
     ensures { (around : scopes.Scopes) → OnOk result
-        (scope.new ≡ scope.old ++ rules.meanings_of around (path_view path.now) (procedure_tree procedure.now)) }
+        (scope.new ≡ scope.old ++ rules.meanings_of around path.now (procedure_tree procedure.now)) }
 {
     let mut faults = Vec::new(alloc);
     result_faults(path, &procedure.result, &mut faults)?;
     formal_faults(path, &procedure.formals, &mut faults)?;
     let result_type = result_type(arena, path, &procedure.result)?;
     let formals = formal_types(alloc, arena, path, &procedure.formals)?;
-    let known = Known {
-        place: procedure.name.1,
+    let declared = arena.try_alloc(Declared {
         is_class: false,
         reading: Reading::ForFormals(formals),
         means: good(&faults, Meaning::Procedure(result_type, formals)),
-    };
-    scope.declare(procedure.name.0, known)
+    })?;
+    let (name, place) = &procedure.name;
+    scope.declare(name, *place, Facts::Declared(declared))
 }
 
 /// Declares what a declaration with these bounds makes of its names.
-pub fn declare<'a>(
+pub fn declare<'t, 'a>(
     alloc: Global,
     arena: &'a Bump,
-    path: &KnownPath<'_, 'a>,
-    decl: &Decl,
+    path: &KnownPath<'_, '_, 'a>,
+    decl: &'t Decl,
     bounds: Bounds<'a>,
-    scope: &mut KnownScope<'a>,
+    scope: &mut KnownScope<'t, 'a>,
 ) -> Result<(), AllocError>
     ensures { (around : scopes.Scopes) → bounds_view bounds.entry ≡ decl_bounds around (decl_tree decl.now)
-        → OnOk result (scope.new ≡ scope.old ++ rules.meanings_of around (path_view path.now) (decl_tree decl.now)) }
+        → OnOk result (scope.new ≡ scope.old ++ rules.meanings_of around path.now (decl_tree decl.now)) }
 {
     match decl {
         Decl::Simple(spec, names) => declare_simple(alloc, arena, path, spec, names, scope),
@@ -258,13 +281,13 @@ pub fn bound_verdict<'a>(place: Place, lower: Verdict<'a>, upper: Verdict<'a>) -
 /// Simple variables.
 pub fn simple<'a>(
     arena: &'a Bump,
-    path: &KnownPath<'_, 'a>,
+    path: &KnownPath<'_, '_, 'a>,
     spec: &TypeSpec,
     names: &Names,
     faults: &mut Vec<Diagnostic>,
 ) -> Result<DraftDecl<'a>, AllocError>
     ensures { IfOk result (λ d. DeclFound faults.old.items faults.new.items d
-        (rules.simple_out (path_view path.now) (spec_tree spec.now) names.now.items)) }
+        (rules.simple_out path.now (spec_tree spec.now) names.now.items)) }
 {
     spec_faults(path, spec, faults)?;
     let simple_type = spec_type(arena, path, spec)?;
@@ -275,7 +298,7 @@ pub fn simple<'a>(
 #[tactic(auto, using(typed_drafts::proofs::DraftRows::slice_bounds))]
 pub fn array<'a>(
     arena: &'a Bump,
-    path: &KnownPath<'_, 'a>,
+    path: &KnownPath<'_, '_, 'a>,
     spec: &TypeSpec,
     names: &Names,
     dimensions: usize,
@@ -283,7 +306,7 @@ pub fn array<'a>(
     faults: &mut Vec<Diagnostic>,
 ) -> Result<DraftDecl<'a>, AllocError>
     ensures { IfOk result (λ d. DeclFound faults.old.items faults.new.items d
-        (rules.array_out (path_view path.now) (spec_tree spec.now) names.now.items dimensions
+        (rules.array_out path.now (spec_tree spec.now) names.now.items dimensions
         (bounds_view bounds.entry))) }
 {
     spec_faults(path, spec, faults)?;
@@ -297,12 +320,12 @@ pub fn array<'a>(
 /// A record class.
 pub fn class<'a>(
     arena: &'a Bump,
-    path: &KnownPath<'_, 'a>,
+    path: &KnownPath<'_, '_, 'a>,
     class: &ClassDecl,
     faults: &mut Vec<Diagnostic>,
 ) -> Result<DraftDecl<'a>, AllocError>
     ensures { IfOk result (λ d. DeclFound faults.old.items faults.new.items d
-        (rules.class_out (path_view path.now) (class_tree class.now))) }
+        (rules.class_out path.now (class_tree class.now))) }
 {
     group_faults(path, class, faults)?;
     Ok(DraftDecl::Class(DraftClass {

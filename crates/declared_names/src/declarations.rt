@@ -9,17 +9,18 @@ ghost use Rattle.typing_rules.specs.View.{classes_of, value_type};
 ghost use Rattle.typing_rules.specs.MeaningView as view;
 ghost use Rattle.typed_drafts.specs.DraftView.{formal_view, placed_view};
 ghost use Rattle.declared_names.specs.Heads.{typed_formal};
-ghost use Rattle.declared_names.specs.KnownPaths.{path_view};
+ghost use Rattle.declared_names.specs.KnownView.{alike, facts_view};
 ghost use Rattle.typed_drafts.specs.Groups.{group_view};
 
-use crate::known::{Known, KnownPath, KnownScope};
-use algolw_tree::{ClassDecl, Formal, Mode, Names, TypeSpec};
+use crate::known::{Declared, Facts, KnownScope};
+use crate::path::KnownPath;
+use algolw_tree::{ClassDecl, Formal, Mode, Names, Spelling, TypeSpec};
 use bumpalo::Bump;
 use bumpalo::collections::into_bump_slice;
 use std::alloc::{AllocError, Global};
 use typed_drafts::{DraftFormal, Places};
 use typing_rules::{ClassSet, FormalType, Meaning, Reading, ValueType};
-use value_ops::{Diagnostic, Name, Place};
+use value_ops::{Diagnostic, Place};
 
 /// Adds a fault.
 fn add_fault(number: u8, place: Place, faults: &mut Vec<Diagnostic>) -> Result<(), AllocError>
@@ -32,11 +33,11 @@ fn add_fault(number: u8, place: Place, faults: &mut Vec<Diagnostic>) -> Result<(
 /// Adds the fault of a name where a class is wanted: 30 for one that is not declared, 33 for one that is no class.
 pub fn class_fault(
     path: &KnownPath,
-    class: &(Name, Place),
+    class: &(Spelling, Place),
     faults: &mut Vec<Diagnostic>,
 ) -> Result<(), AllocError>
     ensures { OnOk result (faults.new.items ≡ faults.old.items
-        ++ rules.class_fault class.now (declared (path_view path.now) class.now.0)) }
+        ++ rules.class_fault class.now (declared path.now class.now.0)) }
 {
     match path.declared(&class.0) {
         None => add_fault(Diagnostic::NAME_NOT_DECLARED, class.1, faults),
@@ -52,7 +53,7 @@ fn class_faults(
     faults: &mut Vec<Diagnostic>,
 ) -> Result<(), AllocError>
     ensures { OnOk result (faults.new.items ≡ faults.old.items
-        ++ rules.class_faults (path_view path.now) classes.now.items) }
+        ++ rules.class_faults path.now classes.now.items) }
 {
     for class in classes {
         class_fault(path, class, faults)?;
@@ -74,7 +75,7 @@ pub(crate) fn spec_faults(
     faults: &mut Vec<Diagnostic>,
 ) -> Result<(), AllocError>
     ensures { OnOk result (faults.new.items ≡ faults.old.items
-        ++ rules.spec_faults (path_view path.now) (spec_tree spec.now)) }
+        ++ rules.spec_faults path.now (spec_tree spec.now)) }
 {
     match spec {
         TypeSpec::Bits(Some((width, place))) if written(*width) != 32 => {
@@ -94,7 +95,7 @@ fn class_set<'a>(
     path: &KnownPath,
     names: &Names,
 ) -> Result<ClassSet<'a>, AllocError>
-    ensures { IfOk result (λ set. classes_of set ≡ rules.class_set (path_view path.now) names.now.items) }
+    ensures { IfOk result (λ set. classes_of set ≡ rules.class_set path.now names.now.items) }
 {
     let mut classes = Vec::with_capacity(arena, names.len())?;
     for (name, _) in names {
@@ -111,7 +112,7 @@ pub(crate) fn spec_type<'a>(
     path: &KnownPath,
     spec: &TypeSpec,
 ) -> Result<ValueType<'a>, AllocError>
-    ensures { IfOk result (λ t. value_type t ≡ rules.spec_type (path_view path.now) (spec_tree spec.now)) }
+    ensures { IfOk result (λ t. value_type t ≡ rules.spec_type path.now (spec_tree spec.now)) }
 {
     Ok(match spec {
         TypeSpec::Integer => ValueType::Integer,
@@ -130,7 +131,7 @@ pub(crate) fn result_faults(
     faults: &mut Vec<Diagnostic>,
 ) -> Result<(), AllocError>
     ensures { OnOk result (faults.new.items ≡ faults.old.items
-        ++ rules.result_faults (path_view path.now) (option_map spec_tree spec.now)) }
+        ++ rules.result_faults path.now (option_map spec_tree spec.now)) }
 {
     match spec {
         None => Ok(()),
@@ -145,7 +146,7 @@ pub(crate) fn result_type<'a>(
     spec: &Option<TypeSpec>,
 ) -> Result<Option<ValueType<'a>>, AllocError>
     ensures { IfOk result (λ t. option_map value_type t
-        ≡ rules.result_type (path_view path.now) (option_map spec_tree spec.now)) }
+        ≡ rules.result_type path.now (option_map spec_tree spec.now)) }
 {
     match spec {
         None => Ok(None),
@@ -178,7 +179,7 @@ fn formal_fault(
     faults: &mut Vec<Diagnostic>,
 ) -> Result<(), AllocError>
     ensures { OnOk result (faults.new.items ≡ faults.old.items
-        ++ rules.formal_fault (path_view path.now) (formal_tree formal.now)) }
+        ++ rules.formal_fault path.now (formal_tree formal.now)) }
 {
     result_faults(path, &formal.spec, faults)?;
     dimension_fault(&formal.names, formal.dimensions as usize, faults)
@@ -191,7 +192,7 @@ pub(crate) fn formal_faults(
     faults: &mut Vec<Diagnostic>,
 ) -> Result<(), AllocError>
     ensures { OnOk result (faults.new.items ≡ faults.old.items
-        ++ rules.formal_faults (path_view path.now) (map formal_tree formals.now)) }
+        ++ rules.formal_faults path.now (map formal_tree formals.now)) }
 {
     for formal in formals {
         formal_fault(path, formal, faults)?;
@@ -252,25 +253,37 @@ fn formal_reading<'a>(formal: FormalType<'_>) -> Reading<'a>
 }
 
 /// Declares names of which the same is known.
-fn declare_each<'a>(
-    names: &Names,
+pub(crate) fn declare_alike<'t, 'a>(
+    names: &'t [(Spelling, Place)],
+    facts: Facts<'a>,
+    scope: &mut KnownScope<'t, 'a>,
+) -> Result<(), AllocError>
+    ensures { OnOk result (scope.new ≡ scope.old ++ alike names.now (facts_view facts.entry)) }
+{
+    for (name, place) in names {
+        scope.declare(name, *place, facts)?;
+    }
+    Ok(())
+}
+
+/// Declares names that are read and mean alike.
+#[tactic(auto, using(crate::proofs::Placing::alike_formals))]
+fn declare_each<'t, 'a>(
+    arena: &'a Bump,
+    names: &'t Names,
     reading: Reading<'a>,
     means: Option<Meaning<'a>>,
-    scope: &mut KnownScope<'a>,
+    scope: &mut KnownScope<'t, 'a>,
 ) -> Result<(), AllocError>
     ensures { OnOk result (scope.new ≡ scope.old
         ++ rules.formal_entries names.now.items (view.reading reading.entry) (option_map view.meaning means.entry)) }
 {
-    for (name, place) in names {
-        let known = Known {
-            place: *place,
-            is_class: false,
-            reading,
-            means,
-        };
-        scope.declare(*name, known)?;
-    }
-    Ok(())
+    let declared = arena.try_alloc(Declared {
+        is_class: false,
+        reading,
+        means,
+    })?;
+    declare_alike(names, Facts::Declared(declared), scope)
 }
 
 /// Adds formals that are declared together as calls see them.
@@ -283,7 +296,7 @@ fn add_formal_types<'a>(
     ensures { OnOk result (map view.formal_type types.new.items ≡ map view.formal_type types.old.items
         ++ rules.same_formals formal.now.names.items
         (rules.formal_type formal.now.mode formal.now.dimensions
-        (rules.result_type (path_view path.now) (option_map spec_tree formal.now.spec)))) }
+        (rules.result_type path.now (option_map spec_tree formal.now.spec)))) }
 {
     let spec = result_type(arena, path, &formal.spec)?;
     let formal_type = formal_type(formal.mode, formal.dimensions, spec);
@@ -301,7 +314,7 @@ pub(crate) fn formal_types<'a>(
     formals: &[Formal],
 ) -> Result<&'a [FormalType<'a>], AllocError>
     ensures { IfOk result (λ ts. map view.formal_type ts.now
-        ≡ rules.formal_types (path_view path.now) (map formal_tree formals.now)) }
+        ≡ rules.formal_types path.now (map formal_tree formals.now)) }
 {
     let mut types = Vec::new(alloc);
     for formal in formals {
@@ -311,32 +324,38 @@ pub(crate) fn formal_types<'a>(
 }
 
 /// Declares formals that are declared together round the body.
-fn declare_formal<'a>(
+fn declare_formal<'t, 'a>(
     alloc: Global,
     arena: &'a Bump,
     path: &KnownPath,
-    formal: &Formal,
-    scope: &mut KnownScope<'a>,
+    formal: &'t Formal,
+    scope: &mut KnownScope<'t, 'a>,
 ) -> Result<(), AllocError>
     ensures { OnOk result (scope.new ≡ scope.old
-        ++ rules.formal_scope (path_view path.now) (formal_tree formal.now ∷ [])) }
+        ++ rules.formal_scope path.now (formal_tree formal.now ∷ [])) }
 {
     let mut faults = Vec::new(alloc);
     formal_fault(path, formal, &mut faults)?;
     let spec = result_type(arena, path, &formal.spec)?;
     let formal_type = formal_type(formal.mode, formal.dimensions, spec);
     let means = good(&faults, formal_meaning(formal_type));
-    declare_each(&formal.names, formal_reading(formal_type), means, scope)
+    declare_each(
+        arena,
+        &formal.names,
+        formal_reading(formal_type),
+        means,
+        scope,
+    )
 }
 
 /// The scope that a formal list declares round the body.
-pub fn formal_scope<'a>(
+pub fn formal_scope<'t, 'a>(
     alloc: Global,
     arena: &'a Bump,
     path: &KnownPath,
-    formals: &[Formal],
-) -> Result<KnownScope<'a>, AllocError>
-    ensures { IfOk result (λ s. s ≡ rules.formal_scope (path_view path.now) (map formal_tree formals.now)) }
+    formals: &'t [Formal],
+) -> Result<KnownScope<'t, 'a>, AllocError>
+    ensures { IfOk result (λ s. s ≡ rules.formal_scope path.now (map formal_tree formals.now)) }
 {
     let mut scope = KnownScope::new(alloc);
     for formal in formals {
@@ -362,7 +381,7 @@ fn draft_formal<'a>(
     path: &KnownPath,
     formal: &Formal,
 ) -> Result<DraftFormal<'a>, AllocError>
-    ensures { IfOk result (λ f. formal_view f ≡ typed_formal (path_view path.now) (formal_tree formal.now)) }
+    ensures { IfOk result (λ f. formal_view f ≡ typed_formal path.now (formal_tree formal.now)) }
 {
     Ok(DraftFormal {
         spec: result_type(arena, path, &formal.spec)?,
@@ -379,7 +398,7 @@ pub(crate) fn draft_formals<'a>(
     formals: &[Formal],
 ) -> Result<&'a [DraftFormal<'a>], AllocError>
     ensures { IfOk result (λ fs. map formal_view fs.now
-        ≡ typed_formals (path_view path.now) (map formal_tree formals.now)) }
+        ≡ typed_formals path.now (map formal_tree formals.now)) }
 {
     let mut drafts = Vec::with_capacity(arena, formals.len())?;
     for formal in formals {
@@ -395,7 +414,7 @@ pub(crate) fn group_faults(
     faults: &mut Vec<Diagnostic>,
 ) -> Result<(), AllocError>
     ensures { OnOk result (faults.new.items ≡ faults.old.items
-        ++ rules.group_faults (path_view path.now) (class_tree class.now).groups) }
+        ++ rules.group_faults path.now (class_tree class.now).groups) }
 {
     for (spec, _) in &class.groups {
         spec_faults(path, spec, faults)?;
@@ -410,7 +429,7 @@ pub(crate) fn draft_groups<'a>(
     class: &ClassDecl,
 ) -> Result<&'a [(ValueType<'a>, Places<'a>)], AllocError>
     ensures { IfOk result (λ gs. map group_view gs.now
-        ≡ typed_groups (path_view path.now) (class_tree class.now).groups) }
+        ≡ typed_groups path.now (class_tree class.now).groups) }
 {
     let mut groups = Vec::with_capacity(arena, class.groups.len())?;
     for (spec, names) in &class.groups {
@@ -427,7 +446,7 @@ fn field_types<'a>(
     class: &ClassDecl,
 ) -> Result<&'a [ValueType<'a>], AllocError>
     ensures { IfOk result (λ ts. map value_type ts.now
-        ≡ rules.field_types (path_view path.now) (class_tree class.now).groups) }
+        ≡ rules.field_types path.now (class_tree class.now).groups) }
 {
     let mut types = Vec::new(alloc);
     for (spec, names) in &class.groups {
@@ -453,57 +472,58 @@ fn add_types<'a>(
 }
 
 /// Declares the fields of a class that is found to have these faults.
-fn declare_fields<'a>(
+fn declare_fields<'t, 'a>(
     arena: &'a Bump,
     path: &KnownPath,
-    class: &ClassDecl,
+    class: &'t ClassDecl,
     faults: &[Diagnostic],
-    scope: &mut KnownScope<'a>,
+    scope: &mut KnownScope<'t, 'a>,
 ) -> Result<(), AllocError>
     ensures { OnOk result (scope.new ≡ scope.old
-        ++ rules.field_entries (path_view path.now) faults.now class.now.name.1 (class_tree class.now).groups) }
+        ++ rules.field_entries path.now faults.now class.now.name.1 (class_tree class.now).groups) }
 {
     for (spec, names) in &class.groups {
         let field = Meaning::Field(class.name.1, spec_type(arena, path, spec)?);
-        declare_names(names, good(faults, field), scope)?;
+        declare_names(arena, names, good(faults, field), scope)?;
     }
     Ok(())
 }
 
 /// Declares a class and its fields.
-pub(crate) fn declare_class<'a>(
+pub(crate) fn declare_class<'t, 'a>(
     alloc: Global,
     arena: &'a Bump,
     path: &KnownPath,
-    class: &ClassDecl,
-    scope: &mut KnownScope<'a>,
+    class: &'t ClassDecl,
+    scope: &mut KnownScope<'t, 'a>,
 ) -> Result<(), AllocError>
-    ensures { OnOk result (scope.new ≡ scope.old ++ rules.class_entries (path_view path.now) (class_tree class.now)) }
+    ensures { OnOk result (scope.new ≡ scope.old ++ rules.class_entries path.now (class_tree class.now)) }
 {
     let mut faults = Vec::new(alloc);
     group_faults(path, class, &mut faults)?;
     let fields = field_types(alloc, arena, path, class)?;
-    let known = Known {
-        place: class.name.1,
+    let declared = arena.try_alloc(Declared {
         is_class: true,
         reading: Reading::AsPhrases,
         means: good(&faults, Meaning::Class(fields)),
-    };
-    scope.declare(class.name.0, known)?;
+    })?;
+    let (name, place) = &class.name;
+    scope.declare(name, *place, Facts::Declared(declared))?;
     declare_fields(arena, path, class, &faults, scope)
 }
 
 /// Declares names that mean the same, or whose declaration is faulty.
 #[tactic(auto, using(crate::proofs::Placing::entries_alike))]
-pub(crate) fn declare_names<'a>(
-    names: &Names,
+pub(crate) fn declare_names<'t, 'a>(
+    arena: &'a Bump,
+    names: &'t Names,
     means: Option<Meaning<'a>>,
-    scope: &mut KnownScope<'a>,
+    scope: &mut KnownScope<'t, 'a>,
 ) -> Result<(), AllocError>
     ensures { OnOk result (scope.new ≡ scope.old
         ++ rules.entries names.now.items (option_map view.meaning means.entry)) }
 {
-    declare_each(names, Reading::AsPhrases, means, scope)
+    declare_each(arena, names, Reading::AsPhrases, means, scope)
 }
 
 /// Adds a 31 for each name that a scope declares a second time.

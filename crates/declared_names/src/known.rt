@@ -1,20 +1,19 @@
-ghost use Rattle.std.specs.Prelude.{◌≡◌, ℕ, ◌<◌, List, ◌∷◌, [], ◌++◌, OnOk, length, slice_index_or, take};
+ghost use Rattle.std.specs.Prelude.{◌≡◌, ℕ, ◌<◌, List, ◌∷◌, [], ◌++◌, OnOk, None, false, length, slice_index_or, take};
 ghost use Rattle.std.specs.Option.{option_map};
-ghost use Rattle.algolw_typing.specs.Names.{Entry, in_scope, declared};
+ghost use Rattle.algolw_typing.specs.Names.{Entry, in_scope};
 ghost use Rattle.algolw_typing.specs.Scopes as scopes;
 ghost use Rattle.algolw_typing.specs.Typing as rules;
 ghost use Rattle.typing_rules.specs.MeaningView as view;
-ghost use Rattle.declared_names.specs.KnownView.{entry_of};
-ghost use Rattle.declared_names.specs.KnownPaths.{path_view};
+ghost use Rattle.declared_names.specs.KnownView.{entry_of, entry_with, facts_view, known_view};
 ghost use Rattle.declared_names.specs.Seconds.{second_fault};
 ghost use Rattle.name_scopes.specs.Marks.{mark_of};
 
-use crate::standard::standard_known;
-use name_scopes::{Scope, mark_of};
+use algolw_tree::Spelling;
+use name_scopes::Scope;
 use std::alloc::{AllocError, Global};
 use std::marker::Model;
 use typing_rules::{Meaning, Reading};
-use value_ops::{Name, Place};
+use value_ops::Place;
 
 /// What is known of a name that a scope declares.
 #[derive(Clone, Copy)]
@@ -26,6 +25,32 @@ pub struct Known<'a> {
     /// How the parts of a list behind it are read.
     pub reading: Reading<'a>,
     /// What it means, where its declaration is good.
+    pub means: Option<Meaning<'a>>,
+}
+
+/// What is known of names that are declared alike.
+#[derive(Clone, Copy)]
+pub enum Facts<'a> {
+    /// They mean nothing yet, and are no record classes.
+    Nothing,
+    /// It is a record class, which means nothing yet.
+    Class,
+    /// They are labels.
+    Label,
+    /// It is the control name of a FOR.
+    Control,
+    /// What their declaration makes of them.
+    Declared(&'a Declared<'a>),
+}
+
+/// What a declaration makes of its names.
+#[derive(Clone, Copy)]
+pub struct Declared<'a> {
+    /// Whether it is a record class.
+    pub is_class: bool,
+    /// How the parts of a list behind them are read.
+    pub reading: Reading<'a>,
+    /// What they mean, where their declaration is good.
     pub means: Option<Meaning<'a>>,
 }
 
@@ -54,13 +79,13 @@ pub fn meaning_of(known: Option<Known<'_>>) -> Option<Meaning<'_>>
 
 /// What a scope declares, in order of place.
 #[derive(Drop)]
-pub struct KnownScope<'a> {
-    names: Scope,
+pub struct KnownScope<'t, 'a> {
+    names: Scope<'t>,
     /// What is known of each.
-    known: Vec<Known<'a>>,
+    facts: Vec<Facts<'a>>,
 }
 
-impl<'a> Model for KnownScope<'a> {
+impl<'t, 'a> Model for KnownScope<'t, 'a> {
     ghost use Rattle.std.specs.Prelude.{List};
     ghost use Rattle.algolw_typing.specs.Names as typing_names;
     ghost use Rattle.algolw_typing.specs.Scopes as rules;
@@ -69,43 +94,60 @@ impl<'a> Model for KnownScope<'a> {
 
     ghost Value = { List (typing_names.Entry rules.Known) };
 
-    ghost view = { λ s. entries_of s.names s.known.items };
+    ghost view = { λ s. entries_of s.names s.facts.items };
 
-    ghost invariant = { λ s. AsMany s.names s.known.items };
+    ghost invariant = { λ s. AsMany s.names s.facts.items };
 }
 
-impl<'a> KnownScope<'a> {
+impl<'t, 'a> KnownScope<'t, 'a> {
     /// A scope that declares nothing.
-    pub fn new(alloc: Global) -> KnownScope<'a>
+    pub fn new(alloc: Global) -> KnownScope<'t, 'a>
         ensures { result ≡ [] }
     {
         KnownScope {
             names: Scope::new(alloc),
-            known: Vec::new(alloc),
+            facts: Vec::new(alloc),
         }
     }
 
-    /// Declares a name.
+    /// Declares a name, of which this is known.
     #[tactic(auto, using(crate::proofs::Knowing::one_more))]
-    pub fn declare(&mut self, name: Name, known: Known<'a>) -> Result<(), AllocError>
-        ensures { OnOk result (self.new ≡ self.old ++ entry_of name known.entry ∷ []) }
+    pub fn declare(
+        &mut self,
+        name: &'t Spelling,
+        place: Place,
+        facts: Facts<'a>,
+    ) -> Result<(), AllocError>
+        ensures { OnOk result (self.new ≡ self.old ++ entry_with (name.now, place) (facts_view facts.entry) ∷ []) }
     {
-        self.known.push(known)?;
-        if self.names.declare(name, known.place).is_err() {
-            self.known.pop();
+        self.facts.push(facts)?;
+        if self.names.declare(name, place).is_err() {
+            self.facts.pop();
             return Err(AllocError);
         }
         Ok(())
     }
 
+    /// Whether it may declare a name with this mark.
+    pub fn has_mark(&self, mark: usize) -> bool
+        requires { mark < 64 }
+        ensures { result ≡ false → (x : List ℕ) → mark_of x ≡ mark → in_scope self.now x ≡ None }
+    {
+        self.names.has_mark(mark)
+    }
+
     /// The first declaration of a name with this mark.
-    fn find_marked(&self, name: &Name, mark: usize) -> Option<Known<'a>>
+    pub fn find_marked(&self, name: &Spelling, mark: usize) -> Option<Known<'a>>
         requires { mark ≡ mark_of name.now }
         ensures { option_map (entry_of name.now) result ≡ in_scope self.now name.now }
     {
         match self.names.find_marked(name, mark) {
             None => None,
-            Some(position) => Some(self.known[position as usize]),
+            Some(position) => {
+                let (_, place) = self.names.name_at(position as usize);
+                let facts = self.facts[position as usize];
+                Some(known_at(place, facts))
+            }
         }
     }
 
@@ -122,8 +164,7 @@ impl<'a> KnownScope<'a> {
         ensures { (e : Entry scopes.Known) → second_fault result
             ≡ scopes.again (take position self.now) (slice_index_or self.now position e) }
     {
-        let (name, _) = &self.names.names()[position];
-        let place = self.known[position].place;
+        let (name, place) = self.names.name_at(position);
         if self.names.has_before(name, position) {
             Some(place)
         } else {
@@ -132,28 +173,22 @@ impl<'a> KnownScope<'a> {
     }
 }
 
-/// The scopes in which a phrase stands, the innermost first.
-#[derive(Clone, Copy)]
-pub enum KnownPath<'s, 'a> {
-    /// The scope of the standard names, which stands around each program.
-    Standard,
-    /// A scope, and those around it.
-    Inner(&'s KnownScope<'a>, &'s KnownPath<'s, 'a>),
-}
-
-impl<'s, 'a> KnownPath<'s, 'a> {
-    /// The declaration that a name has here.
-    pub fn declared(&self, name: &Name) -> Option<Known<'a>>
-        ensures { option_map (entry_of name.now) result ≡ declared (path_view self.now) name.now }
-    {
-        let mark = mark_of(name);
-        let mut path = self;
-        while let KnownPath::Inner(own, outer) = path {
-            if let Some(known) = own.find_marked(name, mark) {
-                return Some(known);
-            }
-            path = outer;
-        }
-        standard_known(name)
+/// What is known of a name that is declared at a place.
+fn known_at<'a>(place: Place, facts: Facts<'a>) -> Known<'a>
+    ensures place { result.place ≡ place }
+    ensures known { known_view result ≡ facts_view facts.entry }
+{
+    let (is_class, reading, means) = match facts {
+        Facts::Nothing => (false, Reading::AsPhrases, None),
+        Facts::Class => (true, Reading::AsPhrases, None),
+        Facts::Label => (false, Reading::AsPhrases, Some(Meaning::Label)),
+        Facts::Control => (false, Reading::AsPhrases, Some(Meaning::Control)),
+        Facts::Declared(declared) => (declared.is_class, declared.reading, declared.means),
+    };
+    Known {
+        place,
+        is_class,
+        reading,
+        means,
     }
 }

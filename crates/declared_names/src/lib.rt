@@ -4,6 +4,7 @@
 mod blocks;
 mod declarations;
 mod known;
+mod path;
 mod procedures;
 mod standard;
 
@@ -11,5 +12,6 @@ pub use blocks::{
     Bounds, array, bound_verdict, class, declare, declare_labels, names_of_block, no_bounds, simple,
 };
 pub use declarations::{class_fault, formal_scope, places, twice};
-pub use known::{Known, KnownPath, KnownScope, meaning_of, place_of};
+pub use known::{Declared, Facts, Known, KnownScope, meaning_of, place_of};
+pub use path::KnownPath;
 pub use procedures::{Head, procedure, procedure_verdict, read_head};

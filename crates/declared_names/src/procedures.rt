@@ -7,10 +7,9 @@ ghost use Rattle.typing_rules.specs.View as view;
 ghost use Rattle.typed_drafts.specs.DraftView.{decl_view, draft_view, formal_view, place_view};
 ghost use Rattle.algolw_typing.specs.Typed as typed;
 ghost use Rattle.declared_names.specs.Heads.{IsHead, verdict_of};
-ghost use Rattle.declared_names.specs.KnownPaths.{path_view};
 
 use crate::declarations::{draft_formals, formal_faults, result_faults, result_type};
-use crate::known::KnownPath;
+use crate::path::KnownPath;
 use algolw_tree::{Formal, TypeSpec};
 use bumpalo::Bump;
 use std::alloc::AllocError;
@@ -32,15 +31,15 @@ pub struct Head<'a> {
 /// Finds what stands before the body, and adds the faults in it but those of its formals' names.
 pub fn read_head<'a>(
     arena: &'a Bump,
-    path: &KnownPath<'_, 'a>,
+    path: &KnownPath<'_, '_, 'a>,
     value_type: &Option<TypeSpec>,
     formals: &[Formal],
     faults: &mut Vec<Diagnostic>,
 ) -> Result<Head<'a>, AllocError>
     ensures faults { OnOk result (faults.new.items ≡ faults.old.items
-        ++ scopes.result_faults (path_view path.now) (option_map spec_tree value_type.now)
-        ++ scopes.formal_faults (path_view path.now) (map formal_tree formals.now)) }
-    ensures head { IfOk result (λ h. IsHead h (path_view path.now) (option_map spec_tree value_type.now)
+        ++ scopes.result_faults path.now (option_map spec_tree value_type.now)
+        ++ scopes.formal_faults path.now (map formal_tree formals.now)) }
+    ensures head { IfOk result (λ h. IsHead h path.now (option_map spec_tree value_type.now)
         (map formal_tree formals.now)) }
 {
     let before = faults.len();

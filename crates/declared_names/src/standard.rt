@@ -1,13 +1,13 @@
 ghost use Rattle.std.specs.Prelude.{◌≡◌, ◌<◌, length};
 ghost use Rattle.std.specs.Option.{option_map};
-ghost use Rattle.algolw_typing.specs.Names.{in_scope};
-ghost use Rattle.algolw_typing.specs.Scopes as scopes;
+ghost use Rattle.algolw_typing.specs.Names.{declared, in_scope};
 ghost use Rattle.declared_names.specs.KnownView.{entry_of};
-ghost use Rattle.declared_names.specs.Standards.{standard_entries};
+ghost use Rattle.declared_names.specs.Standards.{standard_entries, standard_path};
 
 use crate::known::Known;
+use algolw_tree::Spelling;
 use typing_rules::{Meaning, Reading, Standard};
-use value_ops::{Name, Place};
+use value_ops::Place;
 
 /// The standard names, which stand on card 0, each in the column of its number here.
 const STANDARD_NAMES: [(&[u8], Standard); 12] = [
@@ -26,14 +26,14 @@ const STANDARD_NAMES: [(&[u8], Standard); 12] = [
 ];
 
 /// What is known of a standard name, in the scope around each program.
-pub(crate) fn standard_known<'a>(name: &Name) -> Option<Known<'a>>
-    ensures { option_map (entry_of name.now) result ≡ in_scope scopes.standard_scope name.now }
+pub(crate) fn standard_known<'a>(name: &Spelling) -> Option<Known<'a>>
+    ensures { option_map (entry_of name.now) result ≡ declared standard_path name.now }
 {
     known_on_no_card(&STANDARD_NAMES, name)
 }
 
 /// What is known of a name among these standard ones, which stand on card 0, each in the column of its number.
-fn known_on_no_card<'a>(names: &[(&[u8], Standard)], name: &Name) -> Option<Known<'a>>
+fn known_on_no_card<'a>(names: &[(&[u8], Standard)], name: &Spelling) -> Option<Known<'a>>
     requires { length names.now < 255 }
     ensures { option_map (entry_of name.now) result ≡ in_scope (standard_entries 1 names.now) name.now }
 {

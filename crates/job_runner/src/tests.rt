@@ -201,13 +201,15 @@ fn counts_nesting(rt: HostRuntime) -> Result<(), Fail> {
 /// What the phrase is, in short.
 fn shape(phrase: &Phrase) -> &'static str {
     match &phrase.kind {
-        Kind::IfThen(_, then, None) => match then.kind {
-            Kind::IfThen(_, _, Some(_)) => "the nearest IF has the ELSE",
-            _ => "an IF without ELSE",
+        Kind::IfThen(choice) => match (&choice.then.kind, &choice.otherwise) {
+            (Kind::IfThen(inner), None) if inner.otherwise.is_some() => {
+                "the nearest IF has the ELSE"
+            }
+            _ => "another IF",
         },
-        Kind::Chain(first, links) => match first.kind {
+        Kind::Chain(chain) => match chain.first.kind {
             Kind::Signed(_, _) => "a chain that begins with a sign",
-            _ if links.len() == 2 => "a chain of three",
+            _ if chain.links.len() == 2 => "a chain of three",
             _ => "a chain",
         },
         _ => "another",
@@ -217,7 +219,7 @@ fn shape(phrase: &Phrase) -> &'static str {
 /// What the one phrase of a block is, in short.
 fn shape_in_block(block: &Phrase) -> &'static str {
     match &block.kind {
-        Kind::Block(_, items) => match items.as_slice() {
+        Kind::Block(block) => match block.items.as_slice() {
             [Item::Plain(phrase)] => shape(phrase),
             _ => "none",
         },

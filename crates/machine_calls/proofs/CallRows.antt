@@ -8,7 +8,7 @@ use Rattle.stack_code.specs.Code.{procedure_head}
 use Rattle.stack_code.specs.Machine.{Machine}
 use Rattle.stack_code.specs.Doing.{Next, Row, after, there, ◌>>=◌}
 use Rattle.stack_code.specs.Table as table
-use Rattle.machine_rows.specs.declared.held.Held.{Held}
+use Rattle.cell_store.specs.declared.cells.Word.{Word as Held}
 use Rattle.machine_rows.specs.declared.state.State.{State}
 use Rattle.machine_rows.specs.Seen.{Seen, Stands, IsClear, machine_of, row_of}
 use Rattle.machine_rows.proofs.Finding.{outwards_is}

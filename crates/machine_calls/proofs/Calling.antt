@@ -28,7 +28,7 @@ use Rattle.stack_code.specs.Table as table
 use Rattle.stack_code.specs.Table.{enter_formals}
 use Rattle.machine_rows.specs.declared.held.Halt.{Halt}
 use Rattle.machine_rows.specs.declared.held.Halt.TheVariants as halt
-use Rattle.machine_rows.specs.declared.held.Held.{Held}
+use Rattle.cell_store.specs.declared.cells.Word.{Word as Held}
 use Rattle.machine_rows.specs.declared.state.State.{State}
 use Rattle.machine_rows.specs.Seen.{Seen, Stands, IsClear, EntryFits, machine_of, entry_of, closure_of}
 use Rattle.machine_calls.specs.declared.next.Next as next

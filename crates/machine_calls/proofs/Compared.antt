@@ -8,7 +8,7 @@ use Rattle.algolw_typing.specs.Meanings as typing
 use Rattle.cell_store.specs.declared.cells.Closed.{Closed}
 use Rattle.cell_store.specs.declared.cells.Procedure.{Procedure}
 use Rattle.cell_store.specs.declared.cells.Wide.{Wide}
-use Rattle.cell_store.specs.declared.cells.Word.TheVariants as word
+use Rattle.cell_store.specs.Words as word
 use Rattle.cell_store.specs.declared.cells.Wide.TheVariants as wide
 use Rattle.cell_store.specs.Cells.{Cell, a_word, a_wide, wide_in}
 use Rattle.program_meaning.specs.State.{by_fault, for_value}
@@ -23,7 +23,7 @@ use Rattle.stack_code.specs.Doing.{Next, on, halted, Row, after, there, give, te
 use Rattle.stack_code.specs.Table as table
 use Rattle.cell_store.specs.declared.entries.Purpose.TheVariants as purpose
 use Rattle.machine_rows.specs.declared.held.Halt.TheVariants as halt
-use Rattle.machine_rows.specs.declared.held.Held.{Held}
+use Rattle.cell_store.specs.declared.cells.Word.{Word as Held}
 use Rattle.machine_rows.specs.declared.state.State.{State}
 use Rattle.machine_rows.specs.Seen.{Seen, Stands, IsClear, machine_of, row_of, content_of, closure_of, thunk_of}
 use Rattle.machine_calls.specs.declared.next.Next as next

@@ -2,7 +2,7 @@
 use Rattle.std.proofs.Common.{◌≡◌, ℕ, ◌+◌, ◌<◌, ◌⊎◌, inl, inr, Option, Some, None, List, length, refl, sym, ap, ◌∙◌, subst, arith}
 use Rattle.std.specs.Prelude.{slice_get, Result, Ok, IsSome}
 use Rattle.std.specs.Option.{option_map, option_and_then}
-use Rattle.cell_store.specs.declared.cells.Word.TheVariants as word
+use Rattle.cell_store.specs.Words as word
 use Rattle.cell_store.specs.declared.cells.Wide.{Wide}
 use Rattle.cell_store.specs.declared.cells.Wide.TheVariants as wide
 use Rattle.cell_store.specs.Cells.{Cell, a_word, a_wide, wide_in}
@@ -18,8 +18,8 @@ use Rattle.stack_code.specs.CodeView.{Given, source_view, formal_type_view}
 use Rattle.stack_code.specs.Machine.{Machine, Content}
 use Rattle.stack_code.specs.Doing.{Next, on, Row, after, there, source_out, hold, here, go_to, go_on, ◌>>=◌, ◌>>◌}
 use Rattle.stack_code.specs.Table as table
-use Rattle.machine_rows.specs.declared.held.Held.{Held}
-use Rattle.machine_rows.specs.declared.held.Held.TheVariants as held
+use Rattle.cell_store.specs.declared.cells.Word.{Word as Held}
+use Rattle.cell_store.specs.declared.cells.Word.TheVariants as held
 use Rattle.machine_rows.specs.declared.state.State.{State}
 use Rattle.machine_rows.specs.Kinds.{WideFits, CellFits, CellsFit}
 use Rattle.machine_rows.specs.Names as named

@@ -26,7 +26,7 @@ use Rattle.stack_code.specs.Instr as table_instr
 use Rattle.stack_code.specs.Doing.{Next, on, ended, halted, Row, after, there, source_out, closure_in, newest, ◌>>=◌}
 use Rattle.stack_code.specs.Table as table
 use Rattle.program_meaning.specs.Phrases as phrases
-use Rattle.machine_rows.specs.declared.held.Held.{Held}
+use Rattle.cell_store.specs.declared.cells.Word.{Word as Held}
 use Rattle.machine_rows.specs.declared.state.State.{State}
 use Rattle.machine_rows.specs.Seen.{Seen, Stands, IsClear, machine_of, row_of, closure_of, frame_of, frames_of}
 use Rattle.machine_calls.specs.declared.next.Next as next

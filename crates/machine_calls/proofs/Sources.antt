@@ -6,7 +6,7 @@ use Rattle.stack_code.specs.declared.instructions.Source.TheVariants as source
 use Rattle.stack_code.specs.CodeView.{Given, source_view}
 use Rattle.stack_code.specs.Doing as doing
 use Rattle.name_thunks.specs.Links.{outwards}
-use Rattle.machine_rows.specs.declared.held.Held.{Held}
+use Rattle.cell_store.specs.declared.cells.Word.{Word as Held}
 use Rattle.machine_rows.specs.declared.state.State.{State}
 use Rattle.machine_rows.specs.Seen.{Seen, machine_of, content_of}
 use Rattle.machine_rows.proofs.Finding.{outwards_is}

@@ -249,7 +249,7 @@ fn prepare_phrase(
         FormalType::Value(kind) | FormalType::ValueResult(kind) => {
             enter_aside(state, Purpose::Value, Some(kind), head, pc, held)
         }
-        FormalType::Result(_) => ready(Held::NOTHING, pc),
+        FormalType::Result(_) => ready(Held::Nothing, pc),
         FormalType::ByName(kind) => {
             let variable = is_variable && gives_same(code, gives, kind);
             ready(hold_thunk(state, variable, Some(kind), head), pc)

@@ -41,18 +41,19 @@ pub fn again(state: &mut State, given: &Given, target: u32, pc: u32, held: Held)
             Err(halt) => Next::Halted(halt),
         }
     } else {
-        go_to(pc + 1, Held::NOTHING)
+        go_to(pc + 1, Held::Nothing)
     }
 }
 
 /// The integer that lies so many cells below the top.
 #[inline(always)]
+#[tactic(auto, using(machine_rows::proofs::Narrow::integer_word))]
 fn integer_below(store: &Store, below: u32) -> i32
     requires { IsSome (counting.integer_below below store.now) }
     ensures { counting.integer_below below store.now ≡ Some result }
 {
     match store.cell(store.live().saturating_sub(below)) {
-        Some(Word::Integer(number)) => number,
+        Word::Integer(number) => number,
         _ => unreachable!(),
     }
 }
@@ -115,7 +116,7 @@ fn leave_loop(state: &mut State, exit: u32) -> Next
 {
     let below = state.store.live() - 3;
     state.store.cut_to(below);
-    go_to(exit, Held::NOTHING)
+    go_to(exit, Held::Nothing)
 }
 
 /// The first turn of FOR, or it goes on at the exit. F14, L1.
@@ -242,10 +243,10 @@ pub fn list_turn(
     requires clear { IsClear (row_of seen at (instr.ListTurn target name) (machine_of seen state.old held)) }
     ensures { Goes seen state.new held result (row_of seen at (instr.ListTurn target name) (machine_of seen state.old held)) }
 {
-    let Held::Word(word) = held else {
+    let Held::Integer(number) = held else {
         unreachable!()
     };
-    if let Err(limit) = state.store.push(word) {
+    if let Err(limit) = state.store.push(Word::Integer(number)) {
         return Next::Halted(Halt::Limit(limit));
     }
     if let Err(halt) = tick(state, given.steps) {

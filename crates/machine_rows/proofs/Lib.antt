@@ -2,6 +2,7 @@ pub mod Lists
 pub mod Finding
 pub mod Shown
 pub mod Steady
+pub mod Narrow
 pub mod Tops
 pub mod Operands
 pub mod Orders
@@ -24,3 +25,4 @@ pub mod Declaring
 pub mod Filling
 pub mod Starred
 pub mod Integers
+pub mod Subscripts

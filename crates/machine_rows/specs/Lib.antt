@@ -7,3 +7,4 @@ pub mod Names
 pub mod Parts
 pub mod Assigned
 pub mod Printed
+pub mod Pushed

@@ -11,7 +11,6 @@ use crate::assigning::{give, spot_held};
 use crate::held::{Halt, Held};
 use crate::state::State;
 use crate::variables::held_value;
-use cell_store::Word;
 use output_editing::Printer;
 use stack_code::Code;
 use value_ops::{Card, Fault, Limit, SimpleType, Text, Value};
@@ -104,10 +103,10 @@ pub fn io_control(state: &mut State, held: Held) -> Held
     ensures { Tells seen state.new held (Ok result) (row_of seen 0 instr.IoControl (machine_of seen state.old held)) }
 {
     match held {
-        Held::Word(Word::Integer(1)) => state.input.skip_card(),
-        Held::Word(Word::Integer(2)) => state.printer.end_line(),
-        Held::Word(Word::Integer(_)) => {}
+        Held::Integer(1) => state.input.skip_card(),
+        Held::Integer(2) => state.printer.end_line(),
+        Held::Integer(_) => {}
         _ => unreachable!(),
     }
-    Held::NOTHING
+    Held::Nothing
 }

@@ -13,7 +13,7 @@ mod state;
 mod strings;
 mod variables;
 
-pub use arrays::{bounds, declare_array, element, subarray};
+pub use arrays::{bounds, declare_array, element, element_of, subarray};
 pub use assigning::{assign, assign_back, make};
 pub use editing::{io_control, read, read_card, write};
 pub use held::{Halt, Held, truth};

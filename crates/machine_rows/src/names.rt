@@ -1,5 +1,6 @@
 ghost use Rattle.std.specs.Prelude.{◌≡◌, IfSome, IsSome, Some};
 ghost use Rattle.cell_store.specs.Cells.{a_word};
+ghost use Rattle.cell_store.specs.Words.{Integer};
 ghost use Rattle.machine_rows.specs.Contents.{thunk_in};
 ghost use Rattle.machine_rows.specs.Names as named;
 
@@ -80,10 +81,10 @@ pub fn thunk_out(store: &Store, links: u16, position: u32) -> Closed
 #[inline(always)]
 pub fn integer_out(store: &Store, links: u16, position: u32) -> Option<i32>
     requires { IsSome (named.cell_out store.now links position) }
-    ensures { IfSome result (λ n. named.content_out store.now links position ≡ Some (a_word (Word.Integer n))) }
+    ensures { IfSome result (λ n. named.content_out store.now links position ≡ Some (a_word (Integer n))) }
 {
     match store.cell(cell_out(store, links, position)) {
-        Some(Word::Integer(number)) => Some(number),
+        Word::Integer(number) => Some(number),
         _ => None,
     }
 }

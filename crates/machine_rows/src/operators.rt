@@ -30,7 +30,7 @@ fn integer(answer: Result<i32, Fault>) -> Result<Held, Halt>
     ensures { (w : Wide) → answered w result ≡ operations.integer answer }
 {
     match answer {
-        Ok(number) => Ok(Held::integer(number)),
+        Ok(number) => Ok(Held::Integer(number)),
         Err(fault) => Err(Halt::Fault(fault)),
     }
 }
@@ -40,7 +40,7 @@ fn bits(answer: Result<u32, Fault>) -> Result<Held, Halt>
     ensures { (w : Wide) → answered w result ≡ operations.bits answer }
 {
     match answer {
-        Ok(bits) => Ok(Held::bits(bits)),
+        Ok(bits) => Ok(Held::Bits(bits)),
         Err(fault) => Err(Halt::Fault(fault)),
     }
 }
@@ -77,11 +77,12 @@ fn unary_operation(state: &mut State, op: UnaryOp, held: Held) -> Result<Held, H
     ensures fits { (g : Given) → WideFits g state.old.wide → WideFits g state.new.wide }
 {
     match held {
-        Held::Word(Word::Integer(value)) => integer_changed(state, op, value),
-        Held::Word(Word::Logical(truth)) => Ok(logical_changed(op, truth)),
-        Held::Word(Word::Bits(value)) => Ok(bits_changed(op, value)),
+        Held::Integer(value) => integer_changed(state, op, value),
+        Held::True => Ok(logical_changed(op, true)),
+        Held::False => Ok(logical_changed(op, false)),
+        Held::Bits(value) => Ok(bits_changed(op, value)),
         Held::Wide => Ok(code_of(state, op)),
-        Held::Word(_) => unreachable!(),
+        _ => unreachable!(),
     }
 }
 
@@ -97,7 +98,7 @@ fn integer_changed(state: &mut State, op: UnaryOp, value: i32) -> Result<Held, H
         UnaryOp::Minus => integer(negate(value)),
         UnaryOp::Absolute => integer(abs(value)),
         UnaryOp::IsOdd => Ok(Held::logical(odd(value))),
-        UnaryOp::ToBits => Ok(Held::bits(bitstring(value))),
+        UnaryOp::ToBits => Ok(Held::Bits(bitstring(value))),
         UnaryOp::ToCharacter => string(state, code(value)),
         _ => unreachable!(),
     }
@@ -120,8 +121,8 @@ fn bits_changed(op: UnaryOp, value: u32) -> Held
     ensures { (w : Wide) → answered w (Ok result) ≡ operations.unary (unary_view op) (Value.Bits value) }
 {
     match op {
-        UnaryOp::Complement => Held::bits(not(value)),
-        UnaryOp::ToNumber => Held::integer(number(value)),
+        UnaryOp::Complement => Held::Bits(not(value)),
+        UnaryOp::ToNumber => Held::Integer(number(value)),
         _ => unreachable!(),
     }
 }
@@ -132,7 +133,7 @@ fn code_of(state: &State, op: UnaryOp) -> Held
     ensures { (w : Wide) → answered w (Ok result) ≡ unary_of op state.now.wide Held.Wide }
 {
     match (op, &state.wide) {
-        (UnaryOp::ToCode, Wide::Str(text)) => Held::integer(i32::from(text.as_slice()[0])),
+        (UnaryOp::ToCode, Wide::Str(text)) => Held::Integer(i32::from(text.as_slice()[0])),
         _ => unreachable!(),
     }
 }
@@ -146,25 +147,21 @@ pub fn binary(state: &mut State, op: Op, held: Held) -> Result<Held, Halt>
     ensures { Comes seen state.new held result (row_of seen 0 (instr.Binary op) (machine_of seen state.old held)) }
 {
     let newest = state.store.live() - 1;
-    let left = state.store.cell(newest);
+    let left = state.store.live_cell(newest);
     state.store.cut_to(newest);
     operation(op, left, held)
 }
 
 /// An operation on two words.
 #[inline(always)]
-fn operation(op: Op, left: Option<Word>, right: Held) -> Result<Held, Halt>
+fn operation(op: Op, left: Word, right: Held) -> Result<Held, Halt>
     requires { IsAnswered (binary_words op left right) }
     ensures { (w : Wide) → answered w result ≡ binary_words op left right }
 {
     match (left, right) {
-        (Some(Word::Integer(left)), Held::Word(Word::Integer(right))) => {
-            integer_operation(op, left, right)
-        }
-        (Some(Word::Bits(left)), Held::Word(Word::Integer(amount))) => shifted(op, left, amount),
-        (Some(Word::Bits(left)), Held::Word(Word::Bits(right))) => {
-            Ok(Held::bits(bits_operation(op, left, right)))
-        }
+        (Word::Integer(left), Held::Integer(right)) => { integer_operation(op, left, right) }
+        (Word::Bits(left), Held::Integer(amount)) => shifted(op, left, amount),
+        (Word::Bits(left), Held::Bits(right)) => { Ok(Held::Bits(bits_operation(op, left, right))) }
         _ => unreachable!(),
     }
 }
@@ -230,13 +227,8 @@ fn relation_holds(state: &State, op: RelOp, cell: u32, held: Held) -> bool
     ensures { relation_of op (slice_get state.now.store.cells cell) state.now.wide held ≡ gives (Value.Logical result) }
 {
     match held {
-        Held::Word(right) => {
-            let Some(left) = state.store.cell(cell) else {
-                unreachable!()
-            };
-            words_compared(op, left, right)
-        }
         Held::Wide => holds(op, strings_compared(state, cell)),
+        right => words_compared(op, state.store.live_cell(cell), right),
     }
 }
 
@@ -248,9 +240,17 @@ fn words_compared(op: RelOp, left: Word, right: Word) -> bool
 {
     match (left, right) {
         (Word::Integer(left), Word::Integer(right)) => integers_compared(op, left, right),
-        (Word::Logical(left), Word::Logical(right)) => holds_of_equals(op, left == right),
         (Word::Bits(left), Word::Bits(right)) => holds_of_equals(op, left == right),
-        (Word::Reference(left), Word::Reference(right)) => holds_of_equals(op, left == right),
+        (Word::Record(left), Word::Record(right)) => {
+            holds_of_equals(op, Word::told(left) == Word::told(right))
+        }
+        (Word::Null, Word::Null) => holds_of_equals(op, true),
+        (Word::Null, Word::Record(_)) => holds_of_equals(op, false),
+        (Word::Record(_), Word::Null) => holds_of_equals(op, false),
+        (Word::True, Word::True) => holds_of_equals(op, true),
+        (Word::True, Word::False) => holds_of_equals(op, false),
+        (Word::False, Word::True) => holds_of_equals(op, false),
+        (Word::False, Word::False) => holds_of_equals(op, true),
         _ => unreachable!(),
     }
 }
@@ -363,7 +363,7 @@ pub fn is_class(state: &State, class: ClassId, held: Held) -> Held
     ensures { Comes seen state.now held (Ok result) (row_of seen 0 (instr.IsClass class) (machine_of seen state.now held)) }
 {
     match reference(held) {
-        None => Held::logical(false),
+        None => Held::False,
         Some(record) => Held::logical(state.records.class_of(record) == class),
     }
 }

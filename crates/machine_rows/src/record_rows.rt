@@ -8,7 +8,7 @@ use crate::held::{Halt, Held, reference};
 use crate::names::wanted;
 use crate::state::State;
 use crate::variables::{variable_in_field, word_value};
-use cell_store::{Store, Wide, Word};
+use cell_store::{Store, Wide};
 use record_store::Records;
 use stack_code::Mode;
 use value_ops::{ClassId, RecordId, Value};
@@ -48,7 +48,7 @@ pub fn make_record(state: &mut State, class: ClassId, count: u32) -> Result<Held
         Ok(id) => {
             fill(&mut state.records, id, class, &state.store, first, count);
             state.store.cut_to(first);
-            Ok(Held::Word(Word::Reference(Some(id))))
+            Ok(Held::reference(Some(id)))
         }
         Err(limit) => {
             state.store.cut_to(first);
@@ -84,21 +84,23 @@ pub fn make_record_alone(state: &mut State, class: ClassId, count: u32) -> Resul
     ensures { Comes was.0 state.new was.1 result (row_of was.0 0 (instr.MakeRecordAlone class count) (machine_of was.0 state.old was.1)) }
 {
     match state.records.make(class, count) {
-        Ok(id) => Ok(Held::Word(Word::Reference(Some(id)))),
+        Ok(id) => Ok(Held::reference(Some(id))),
         Err(limit) => Err(Halt::Limit(limit)),
     }
 }
 
 /// The value in a cell.
+#[tactic(auto, using(crate::proofs::Narrow::valued_word, crate::proofs::Narrow::is_wide_word))]
 fn value_at(store: &Store, cell: u32) -> Value
     requires { IsSome (value_in (slice_get store.now.cells cell)) }
     ensures { value_in (slice_get store.now.cells cell) ≡ Some result }
 {
-    match store.cell(cell) {
-        Some(word) => word_value(word),
-        None => match store.wide_cell(cell) {
-            Some(Wide::Str(text)) => Value::Str(*text),
-            _ => unreachable!(),
-        },
+    let word = store.cell(cell);
+    if !word.is_wide() {
+        return word_value(word);
+    }
+    match store.wide_cell(cell) {
+        Some(Wide::Str(text)) => Value::Str(*text),
+        _ => unreachable!(),
     }
 }

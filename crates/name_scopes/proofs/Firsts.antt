@@ -1,17 +1,19 @@
 -- Where among names the first of each stands.
-use Rattle.std.proofs.Common.{◌≡◌, ℕ, zero, suc, ◌+◌, ◌<◌, ◌-◌, Bool, true, false, nat_lt, cond, take, List, [], ◌∷◌, ◌++◌, Option, Some, None, Result, Ok, Err, length, get_or, refl, sym, ap, subst, ◌∙◌, arith}
+use Rattle.std.proofs.Common.{◌≡◌, ℕ, zero, suc, ◌+◌, ◌<◌, ◌-◌, Bool, true, false, nat_lt, cond, take, List, [], ◌∷◌, ◌++◌, Option, Some, None, length, get_or, refl, sym, ap, subst, ◌∙◌, arith}
 use Rattle.std.proofs.lemmas.Bool.Decides.{nat_tests}
+use Rattle.std.proofs.lemmas.List.{get_or-map, length-map, map-append}
 use Rattle.std.proofs.Math.Seq.{take-append_seam}
 use Rattle.std.proofs.lemmas.Option.{same_Some}
 use Rattle.std.proofs.lemmas.Slice.Eq.{bytes_eq-Decides}
 use Rattle.std.specs.HashMap.{HashMap, get}
-use Rattle.std.specs.Option.{option_map, option_or, is_some}
-use Rattle.std.specs.Result.{is_err, OnErr, OnOk}
+use Rattle.std.specs.Option.{option_map, option_or, is_some, unwrap_or}
 use Rattle.std.specs.Str.{bytes_eq}
+use Rattle.value_ops.specs.declared.places.Place.{Place}
 use Rattle.algolw_tree.specs.Tree.{Placed}
 use Rattle.algolw_typing.specs.Names.{in_scope}
 use Rattle.algolw_typing.specs.Naming.{scope_of, place_of}
-use Rattle.name_scopes.specs.Firsts.{Firsts, first_of}
+use Rattle.name_scopes.specs.Firsts.{Firsts, first_of, lent, placed}
+use denote.Ref.{Bor}
 
 pub push_step : (same : Bool) (p q : Option ℕ) → (elim same [ true ↦ Some 0 | false ↦ option_map suc (option_or p q) ]) ≡ option_or (elim same [ true ↦ Some 0 | false ↦ option_map suc p ]) (option_map suc q)
 push_step true p q = refl
@@ -34,36 +36,22 @@ first_of-push (y ∷ xs) x q =
     ∙ push_step (bytes_eq y.0 q) (first_of xs q) (cond (bytes_eq x.0 q) (Some (length xs)) None)
     ∙ ap (option_or (first_of (y ∷ xs) q)) (next (bytes_eq x.0 q) (length xs))
 
-pub kept_by : (same : Bool) (p : Option ℕ) (n : ℕ) → (same ≡ true → is_some p ≡ true) → option_or p (cond same (Some n) None) ≡ p
-kept_by same (Some m) n h = refl
-kept_by false None n h = refl
-kept_by true None n h = let no = h refl in cc
+put_by : (same : Bool) (at here : Option ℕ) (n : ℕ) → (same ≡ true → at ≡ here) → cond same (Some (unwrap_or here n)) at ≡ option_or at (cond same (Some n) None)
+put_by true at None n f = ap (λ (p : Option ℕ). option_or p (Some n)) (sym (f refl))
+put_by true at (Some m) n f = ap (λ (p : Option ℕ). option_or p (Some n)) (sym (f refl))
+put_by false None here n f = refl
+put_by false (Some m) here n f = refl
 
--- a name that was there keeps its first
-pub firsts-kept : {S : Type 0} (xs : List Placed) (x : Placed) (old : HashMap (List ℕ) ℕ S) → Firsts xs old → is_some (get bytes_eq old x.0) ≡ true → Firsts (xs ++ x ∷ []) old
-firsts-kept xs x old f there = record {
-  at = λ q.
-      f.at q
-      ∙ sym (first_of-push xs x q ∙ kept_by (bytes_eq x.0 q) (first_of xs q) (length xs) (λ h. ap is_some (sym (f.at q)) ∙ ap (λ r. is_some (get bytes_eq old r)) (sym ((bytes_eq-Decides x.0 q).0 h)) ∙ there));
-}
-
-pub new_by : (same : Bool) (p : Option ℕ) (n : ℕ) → (same ≡ true → p ≡ None) → cond same (Some n) p ≡ option_or p (cond same (Some n) None)
-new_by true p n h = ap (λ (o : Option ℕ). option_or o (Some n)) (sym (h refl))
-new_by false None n h = refl
-new_by false (Some m) n h = refl
-
--- a name that was not there stands first at the end
-pub firsts-new : {S : Type 0} (xs : List Placed) (x : Placed) (n : ℕ) (old new : HashMap (List ℕ) ℕ S) → Firsts xs old → get bytes_eq old x.0 ≡ None → n ≡ length xs
-    → ((q : List ℕ) → get bytes_eq new q ≡ cond (bytes_eq x.0 q) (Some n) (get bytes_eq old q))
-    → Firsts (xs ++ x ∷ []) new
-firsts-new xs x n old new f none long is = record {
-  at = λ q.
-      is q
-      ∙ new_by (bytes_eq x.0 q) (get bytes_eq old q) n (λ h. ap (get bytes_eq old) (sym ((bytes_eq-Decides x.0 q).0 h)) ∙ none)
-      ∙ ap (λ (p : Option ℕ). option_or p (cond (bytes_eq x.0 q) (Some n) None)) (f.at q)
-      ∙ ap (λ (m : ℕ). option_or (first_of xs q) (cond (bytes_eq x.0 q) (Some m) None)) long
-      ∙ sym (first_of-push xs x q);
-}
+-- where a name stands first among the names and one more
+pub first_put : {S : Type 0} (xs : List Placed) (x : Placed) (n value : ℕ) (old : HashMap (List ℕ) ℕ S) (held : Option ℕ) (q : List ℕ) → Firsts xs old → n ≡ length xs → value ≡ unwrap_or (get bytes_eq old x.0) n
+    → held ≡ cond (bytes_eq x.0 q) (Some value) (get bytes_eq old q) → held ≡ first_of (xs ++ x ∷ []) q
+first_put xs x n value old held q f long here is =
+    is
+    ∙ ap (λ (v : ℕ). cond (bytes_eq x.0 q) (Some v) (get bytes_eq old q)) here
+    ∙ put_by (bytes_eq x.0 q) (get bytes_eq old q) (get bytes_eq old x.0) n (λ h. ap (get bytes_eq old) (sym ((bytes_eq-Decides x.0 q).0 h)))
+    ∙ ap (λ (p : Option ℕ). option_or p (cond (bytes_eq x.0 q) (Some n) None)) (f.at q)
+    ∙ ap (λ (m : ℕ). option_or (first_of xs q) (cond (bytes_eq x.0 q) (Some m) None)) long
+    ∙ sym (first_of-push xs x q)
 
 -- what stands at a first
 pub record StandsAt (xs : List Placed) (q : List ℕ) (i : ℕ) : Type 0 where
@@ -95,21 +83,8 @@ pub none_first : (xs : List Placed) (q : List ℕ) → first_of xs q ≡ None �
 none_first [] q h = refl
 none_first (x ∷ xs) q h = none_step (bytes_eq x.0 q) x xs q (first_of xs q) refl (none_first xs q) h
 
--- what the tests of a map and of a result tell
-pub none_there : {A : Type 0} (o : Option A) → false ≡ is_some o → o ≡ None
-none_there None h = refl
-none_there (Some a) h = cc
-
-pub where_ok : {T E : Type 0} (r : Result T E) (P : Type 0) → false ≡ is_err r → OnOk r P → P
-where_ok (Ok x) P h p = p
-where_ok (Err e) P h p = cc
-
-pub where_err : {T E : Type 0} (r : Result T E) (P : Type 0) → true ≡ is_err r → OnErr r P → P
-where_err (Err e) P h p = p
-where_err (Ok x) P h p = cc
-
 -- what was put at the end is taken away
-pub popped : (xs ys zs : List Placed) (x : Placed) (n : ℕ) → n ≡ length xs + 1 → ys ≡ xs ++ x ∷ [] → zs ≡ take (n - 1) ys → zs ≡ xs
+pub popped : {X : Type 0} (xs ys zs : List X) (x : X) (n : ℕ) → n ≡ length xs + 1 → ys ≡ xs ++ x ∷ [] → zs ≡ take (n - 1) ys → zs ≡ xs
 popped xs ys zs x n long pushed is =
     let before : n - 1 ≡ length xs = omega arith in
     is ∙ ap (λ (m : ℕ). take m ys) before ∙ ap (take (length xs)) pushed ∙ take-append_seam xs (x ∷ [])
@@ -143,3 +118,14 @@ first_in_front [] q zero = refl
 first_in_front [] q (suc i) = refl
 first_in_front (x ∷ xs) q zero = none_in_front (first_of (x ∷ xs) q)
 first_in_front (x ∷ xs) q (suc i) = front_step (bytes_eq x.0 q) x xs q i (first_of xs q) refl (first_in_front xs q i)
+
+-- a name more that stands elsewhere
+pub lent-push : (xs ys : List (Bor (List ℕ) × Place)) (x : Bor (List ℕ) × Place) → ys ≡ xs ++ x ∷ [] → lent ys ≡ lent xs ++ placed x ∷ []
+lent-push xs ys x e = ap lent e ∙ map-append placed xs (x ∷ [])
+
+pub lent-length : (xs : List (Bor (List ℕ) × Place)) → length (lent xs) ≡ length xs
+lent-length xs = length-map xs placed
+
+-- the one at a position
+pub lent-at : (xs : List (Bor (List ℕ) × Place)) (i : ℕ) (x : Bor (List ℕ) × Place) → i < length xs → x ≡ get_or xs i x → get_or (lent xs) i (placed x) ≡ placed x
+lent-at xs i x w e = get_or-map placed xs i x (placed x) w ∙ ap placed (sym e)

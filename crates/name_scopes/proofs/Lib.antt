@@ -1,2 +1,4 @@
 pub mod Firsts
+pub mod Looking
 pub mod Marking
+pub mod Passing

@@ -1,8 +1,21 @@
 -- The path that linked scopes are.
-use Rattle.std.specs.Prelude.{[], ◌∷◌}
-use Rattle.algolw_typing.specs.Naming.{NamePath, scope_of, standard_names}
-use Rattle.name_scopes.specs.declared.path.ScopePath.{ScopePath, Standard, Inner'}
+use Rattle.std.specs.Prelude.{List, ◌∷◌, Option, Some, None, length}
+use denote.Ref.{Bor}
+use Rattle.algolw_tree.specs.Tree.{Placed}
+use Rattle.algolw_typing.specs.Naming.{NamePath, scope_of}
+use Rattle.name_scopes.specs.Nearest.{Nearest}
+use Rattle.name_scopes.specs.Standards.{standard_path}
 
-abbrev pub path_view : ScopePath → NamePath
-path_view Standard = scope_of standard_names ∷ []
-path_view (Inner' own q outer) = scope_of own.now ∷ path_view outer
+-- the path
+abbrev pub path_of : Option (Bor (List Placed) × Bor NamePath) → NamePath
+path_of None = standard_path
+path_of (Some p) = scope_of p.0.now ∷ p.1.now
+
+-- what stands behind its innermost scope
+abbrev pub behind : Option (Bor (List Placed) × Bor NamePath) → NamePath
+behind None = standard_path
+behind (Some p) = p.1.now
+
+-- names are looked for by marks behind the innermost scope
+abbrev pub IsPath : Option (Bor (List Placed) × Bor NamePath) → List (Option (Bor NamePath)) → Type 0
+IsPath scopes nearest = Nearest standard_path (behind scopes) 64 (length (path_of scopes)) nearest

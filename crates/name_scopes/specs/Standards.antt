@@ -2,6 +2,11 @@
 use Rattle.std.specs.Prelude.{ℕ, suc, List, [], ◌∷◌}
 use denote.Ref.{Bor}
 use Rattle.algolw_tree.specs.Tree.{Placed}
+use Rattle.algolw_typing.specs.Naming.{NamePath, scope_of, standard_names}
+
+-- the path of a program, before its own scopes
+abbrev pub standard_path : NamePath
+standard_path = scope_of standard_names ∷ []
 
 -- each on card 0, in the next column
 abbrev pub on_no_card : ℕ → List (Bor (List ℕ)) → List Placed

@@ -5,49 +5,49 @@ ghost use Rattle.std.specs.Cmp.Rules.{hashing};
 ghost use Rattle.std.specs.Str.{bytes_eq};
 ghost use Rattle.std.proofs.Common.{rules};
 
+use algolw_tree::Spelling;
 use std::hash::{Hash, Hasher};
 use std::marker::Model;
-use value_ops::Name;
 
 /// A name by which a table finds what it holds.
 #[derive(Drop)]
-pub(crate) struct Key {
-    name: Name,
+pub(crate) struct Key<'t> {
+    name: &'t Spelling,
 }
 
-impl Model for Key {
+impl<'t> Model for Key<'t> {
     ghost use Rattle.std.specs.Prelude.{ℕ, List};
 
     ghost Value = { List ℕ };
 
-    ghost view = { λ key. key.name };
+    ghost view = { λ key. key.name.now };
 }
 
-impl Key {
+impl<'t> Key<'t> {
     /// The key that a name is.
-    pub(crate) fn new(name: &Name) -> Key
+    pub(crate) fn new(name: &'t Spelling) -> Key<'t>
         ensures { result ≡ name.now }
     {
-        Key { name: *name }
+        Key { name }
     }
 }
 
 /// Equal where the names are.
-impl PartialEq for Key {
+impl<'t> PartialEq for Key<'t> {
     ghost eq = { bytes_eq };
 
     ghost laws = { partial_equiv_from_equiv nat_list_eq_equiv };
 
-    fn eq(&self, other: &Key) -> bool {
-        self.name == other.name
+    fn eq(&self, other: &Key<'t>) -> bool {
+        self.name.as_slice() == other.name.as_slice()
     }
 }
 
-impl Eq for Key {
+impl<'t> Eq for Key<'t> {
     ghost laws = { nat_list_eq_equiv };
 }
 
-impl Hash for Key {
+impl<'t> Hash for Key<'t> {
     ghost hash_input = { λ name. name ∷ [] };
 
     ghost respects_eq = { Prim.search (hashing, rules) };

@@ -7,7 +7,7 @@ mod path;
 mod scope;
 mod standard;
 
-pub use marks::mark_of;
+pub use marks::{EachMark, MARKS, mark_of};
 pub use path::ScopePath;
 pub use scope::Scope;
 pub use standard::STANDARD_NAMES;

@@ -1,18 +1,33 @@
 ghost use Rattle.std.specs.Prelude.{◌≡◌, ◌<◌};
 ghost use Rattle.name_scopes.specs.Marks.{mark_of};
 
-use value_ops::Name;
-
 /// How many marks there are.
-pub(crate) const MARKS: usize = 64;
+pub const MARKS: usize = 64;
 
-/// The mark of a name, made of its length and of the characters at its ends.
-pub fn mark_of(name: &Name) -> usize
+/// One thing for each mark.
+#[derive(Clone, Copy)]
+pub struct EachMark<T> {
+    /// The things, in order of the marks.
+    pub each: [T; MARKS],
+}
+
+impl<T: Copy> EachMark<T> {
+    /// These.
+    pub fn of(each: [T; MARKS]) -> EachMark<T>
+        ensures { result.each ≡ each }
+    {
+        EachMark { each }
+    }
+}
+
+/// The mark of a name, made of its length and of the characters at its ends and in its middle.
+pub fn mark_of(name: &[u8]) -> usize
     ensures value { result ≡ mark_of name.now }
     ensures within { result < 64 }
 {
-    let bytes = name.as_slice();
-    let first = bytes.first().copied().unwrap_or(0);
-    let last = bytes.last().copied().unwrap_or(0);
-    (4 * usize::from(first) + usize::from(last) + 16 * bytes.len()) % MARKS
+    let first = name.first().copied().unwrap_or(0);
+    let middle = name.get(name.len() / 2).copied().unwrap_or(0);
+    let last = name.last().copied().unwrap_or(0);
+    let ends = 4 * usize::from(first) + usize::from(last);
+    (ends + 10 * usize::from(middle) + 16 * (name.len() % 4)) % MARKS
 }

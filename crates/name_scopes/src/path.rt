@@ -1,35 +1,119 @@
-ghost use Rattle.std.specs.Prelude.{◌≡◌};
+ghost use Rattle.std.specs.Prelude.{◌≡◌, ◌∷◌, [], ◌<◌, ◌≤◌, ℕ, List, IfSome, suc, length};
 ghost use Rattle.algolw_typing.specs.Names.{declared};
-ghost use Rattle.algolw_typing.specs.Naming.{place_of};
-ghost use Rattle.name_scopes.specs.Paths.{path_view};
+ghost use Rattle.algolw_typing.specs.Naming.{place_of, scope_of};
+ghost use Rattle.name_scopes.specs.Marks.{mark_of};
+ghost use Rattle.name_scopes.specs.Nearest.{Nearest, kept_or};
+ghost use Rattle.name_scopes.specs.Standards.{standard_path};
 
-use crate::marks::mark_of;
+use crate::marks::{EachMark, MARKS, mark_of};
 use crate::scope::Scope;
 use crate::standard::standard_place;
-use value_ops::{Name, Place};
+use algolw_tree::Spelling;
+use std::marker::Model;
+use value_ops::Place;
 
-/// The scopes in which a phrase stands, the innermost first.
-#[derive(Clone, Copy)]
-pub enum ScopePath<'a> {
-    /// The scope of the standard names, which stands around each program.
-    Standard,
-    /// A scope, and those around it.
-    Inner(&'a Scope, &'a ScopePath<'a>),
+/// The scopes in which a phrase stands, the innermost first. The last is that of the standard names, which stands around
+/// each program.
+#[derive(Drop)]
+pub struct ScopePath<'s, 't> {
+    /// The innermost scope and those around it, where there is more than the standard names.
+    scopes: Option<(&'s Scope<'t>, &'s ScopePath<'s, 't>)>,
+    /// For each mark where a name with it is looked for behind the innermost scope: from the nearest scope on that has the
+    /// mark, or among the standard names alone.
+    nearest: EachMark<Option<&'s ScopePath<'s, 't>>>,
 }
 
-impl ScopePath<'_> {
-    /// The place of the declaration that a name has here.
-    pub fn declared(&self, name: &Name) -> Option<Place>
-        ensures { result ≡ place_of (declared (path_view self.now) name.now) }
+impl<'s, 't> Model for ScopePath<'s, 't> {
+    ghost use Rattle.std.specs.Prelude.{length};
+    ghost use Rattle.algolw_typing.specs.Naming.{NamePath};
+
+    ghost Value = { NamePath };
+
+    ghost use Rattle.name_scopes.specs.Paths.{path_of, IsPath};
+
+    ghost view = { λ p. path_of p.scopes };
+
+    ghost invariant = { λ p. IsPath p.scopes p.nearest.each };
+
+    ghost size = { length };
+
+    ghost use Rattle.name_scopes.specs.PathSizes.{sizes_fall};
+
+    ghost size_decreases = { λ a h. sizes_fall a.scopes a.nearest.each h };
+}
+
+impl<'s, 't> ScopePath<'s, 't> {
+    /// The scope of the standard names alone.
+    pub fn standard() -> ScopePath<'s, 't>
+        ensures { result ≡ standard_path }
     {
-        let mark = mark_of(name);
-        let mut path = self;
-        while let ScopePath::Inner(own, outer) = path {
-            if let Some(place) = own.declared(name, mark) {
-                return Some(place);
-            }
-            path = outer;
+        let nearest = EachMark::of([None; MARKS]);
+        ScopePath {
+            scopes: None,
+            nearest,
         }
-        standard_place(name)
+    }
+
+    /// A scope, and those around it.
+    pub fn inner(own: &'s Scope<'t>, outer: &'s ScopePath<'s, 't>) -> ScopePath<'s, 't>
+        ensures { result ≡ scope_of own.now ∷ outer.now }
+    {
+        let nearest = outer.nearest();
+        ScopePath {
+            scopes: Some((own, outer)),
+            nearest,
+        }
+    }
+
+    /// For each mark where a name with it is looked for along this path.
+    fn nearest(&'s self) -> EachMark<Option<&'s ScopePath<'s, 't>>>
+        ensures { Nearest standard_path self.now 64 (suc (length self.now)) result.each }
+    {
+        let mut each = [None; MARKS];
+        for mark in 0..MARKS {
+            each[mark] = self.nearest_with(mark);
+        }
+        EachMark::of(each)
+    }
+
+    /// Where a name with this mark is looked for along this path.
+    fn nearest_with(&'s self, mark: usize) -> Option<&'s ScopePath<'s, 't>>
+        requires { mark < 64 }
+        ensures alike { (x : List ℕ) → mark_of x ≡ mark → declared (kept_or standard_path result) x ≡ declared self.now x }
+        ensures fewer { IfSome result (λ path. length path.now ≤ length self.now) }
+    {
+        let Some((own, _)) = self.scopes else {
+            return None;
+        };
+        if own.has_mark(mark) {
+            return Some(self);
+        }
+        let nearest = &self.nearest.each[..];
+        nearest[mark]
+    }
+
+    /// The place of the declaration that a name has here.
+    pub fn declared(&self, name: &Spelling) -> Option<Place>
+        ensures { result ≡ place_of (declared self.now name.now) }
+    {
+        self.declared_marked(name, mark_of(name.as_slice()))
+    }
+
+    /// The place of the declaration that a name with this mark has here.
+    fn declared_marked(&self, name: &Spelling, mark: usize) -> Option<Place>
+        requires { mark ≡ mark_of name.now }
+        ensures { result ≡ place_of (declared self.now name.now) }
+    {
+        let Some((own, _)) = self.scopes else {
+            return standard_place(name);
+        };
+        if let Some(place) = own.declared(name, mark) {
+            return Some(place);
+        }
+        let nearest = &self.nearest.each[..];
+        match nearest[mark] {
+            Some(path) => path.declared_marked(name, mark),
+            None => standard_place(name),
+        }
     }
 }

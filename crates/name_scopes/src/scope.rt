@@ -1,44 +1,45 @@
-ghost use Rattle.std.specs.Prelude.{◌≡◌, ◌∷◌, [], ◌++◌, OnErr, OnOk, length, take};
+ghost use Rattle.std.specs.Prelude.{◌≡◌, ◌<◌, ◌∷◌, [], ◌++◌, OnErr, OnOk, false, length, take, slice_index_or};
 ghost use Rattle.std.specs.Option.{is_some};
 ghost use Rattle.algolw_typing.specs.Names.{in_scope};
 ghost use Rattle.algolw_typing.specs.Naming.{scope_of, place_of};
-ghost use Rattle.name_scopes.specs.Firsts.{first_of};
-ghost use Rattle.name_scopes.specs.Marks.{mark_of};
+ghost use Rattle.name_scopes.specs.Firsts.{first_of, lent, placed};
+ghost use Rattle.name_scopes.specs.Marks.{mark_of, Unmarked};
 
 use crate::key::Key;
 use crate::marks::{MARKS, mark_of};
+use algolw_tree::Spelling;
 use std::alloc::{AllocError, Global};
 use std::collections::HashMap;
 use std::marker::Model;
-use value_ops::{Name, Place};
+use value_ops::Place;
 
-/// The names that a scope declares, in the order of their declarations.
+/// The names that a scope declares, in the order of their declarations. They stand in the program's text as it was read.
 #[derive(Drop)]
-pub struct Scope {
-    names: Vec<(Name, Place)>,
+pub struct Scope<'t> {
+    names: Vec<(&'t Spelling, Place)>,
     /// Where among the names each stands first.
-    first: HashMap<Key, u32>,
+    first: HashMap<Key<'t>, u32>,
     /// Which marks they have.
     marks: [bool; MARKS],
 }
 
-impl Model for Scope {
+impl<'t> Model for Scope<'t> {
     ghost use Rattle.std.specs.Prelude.{List};
     ghost use Rattle.algolw_tree.specs.Tree.{Placed};
 
     ghost Value = { List Placed };
 
-    ghost use Rattle.name_scopes.specs.Firsts.{Firsts};
+    ghost use Rattle.name_scopes.specs.Firsts.{Firsts, lent};
     ghost use Rattle.name_scopes.specs.Marks.{Marked};
 
-    ghost view = { λ s. s.names.items };
+    ghost view = { λ s. lent s.names.items };
 
-    ghost invariant = { λ s. Firsts s.names.items s.first × Marked s.names.items s.marks };
+    ghost invariant = { λ s. Firsts (lent s.names.items) s.first × Marked (lent s.names.items) s.marks };
 }
 
-impl Scope {
+impl<'t> Scope<'t> {
     /// A scope that declares nothing.
-    pub fn new(alloc: Global) -> Scope
+    pub fn new(alloc: Global) -> Scope<'t>
         ensures { result ≡ [] }
     {
         Scope {
@@ -49,29 +50,36 @@ impl Scope {
     }
 
     /// Declares a name at a place.
-    pub fn declare(&mut self, name: Name, place: Place) -> Result<(), AllocError>
-        ensures added { OnOk result (self.new ≡ self.old ++ (name, place) ∷ []) }
+    pub fn declare(&mut self, name: &'t Spelling, place: Place) -> Result<(), AllocError>
+        ensures added { OnOk result (self.new ≡ self.old ++ (name.now, place) ∷ []) }
         ensures unchanged { OnErr result (self.new ≡ self.old) }
     {
         let Ok(position) = u32::try_from(self.names.len()) else {
             return Err(AllocError);
         };
-        let key = Key::new(&name);
-        let is_new = !self.first.contains_key(&key);
         self.names.push((name, place))?;
-        self.marks[mark_of(&name)] = true;
-        if is_new && self.first.insert(key, position).is_err() {
+        let Ok(first) = self.first.entry(Key::new(name)) else {
             self.names.pop();
             return Err(AllocError);
-        }
+        };
+        first.or_insert(position);
+        self.marks[mark_of(name.as_slice())] = true;
         Ok(())
     }
 
     /// What it declares.
-    pub fn names(&self) -> &[(Name, Place)]
-        ensures { result.now ≡ self.now }
+    pub fn names(&self) -> &[(&'t Spelling, Place)]
+        ensures { lent result.now ≡ self.now }
     {
         self.names.as_slice()
+    }
+
+    /// The name at a position.
+    pub fn name_at(&self, position: usize) -> (&'t Spelling, Place)
+        requires { position < length self.now }
+        ensures { placed result ≡ slice_index_or self.now position (placed result) }
+    {
+        self.names[position]
     }
 
     /// How many names it declares.
@@ -81,15 +89,23 @@ impl Scope {
         self.names.len()
     }
 
+    /// Whether it may declare a name with this mark.
+    pub fn has_mark(&self, mark: usize) -> bool
+        requires { mark < 64 }
+        ensures { result ≡ false → Unmarked self.now mark }
+    {
+        self.marks[mark]
+    }
+
     /// Where among its names the first one of a name stands.
-    pub fn find(&self, name: &Name) -> Option<u32>
+    pub fn find(&self, name: &Spelling) -> Option<u32>
         ensures { result ≡ first_of self.now name.now }
     {
         self.first.get(&Key::new(name)).copied()
     }
 
     /// Where among its names the first one of a name with this mark stands.
-    pub fn find_marked(&self, name: &Name, mark: usize) -> Option<u32>
+    pub fn find_marked(&self, name: &Spelling, mark: usize) -> Option<u32>
         requires { mark ≡ mark_of name.now }
         ensures { result ≡ first_of self.now name.now }
     {
@@ -101,7 +117,7 @@ impl Scope {
     }
 
     /// Whether it declares a name before this position.
-    pub fn has_before(&self, name: &Name, position: usize) -> bool
+    pub fn has_before(&self, name: &Spelling, position: usize) -> bool
         ensures { result ≡ is_some (in_scope (scope_of (take position self.now)) name.now) }
     {
         match self.find(name) {
@@ -111,13 +127,16 @@ impl Scope {
     }
 
     /// The place of the first declaration of a name with this mark.
-    pub fn declared(&self, name: &Name, mark: usize) -> Option<Place>
+    pub fn declared(&self, name: &Spelling, mark: usize) -> Option<Place>
         requires { mark ≡ mark_of name.now }
         ensures { result ≡ place_of (in_scope (scope_of self.now) name.now) }
     {
         match self.find_marked(name, mark) {
             None => None,
-            Some(position) => Some(self.names[position as usize].1),
+            Some(position) => {
+                let (_, place) = self.name_at(position as usize);
+                Some(place)
+            }
         }
     }
 }

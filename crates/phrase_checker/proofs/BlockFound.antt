@@ -47,6 +47,10 @@ block_found path p f s0 s2 s3 s4 twices names meant scope decls items ds is t n 
 
 -- ---- procedures
 
+-- what is found of a phrase, along equal scopes
+pub noted_along : (a b : Checker) (t : Typed) (body : tree.Phrase) (path path' : Scopes) → path ≡ path' → Noted a b t (typed_phrase path body) → Noted a b t (typed_phrase path' body)
+noted_along a b t body path path' e h = subst (λ (q : Scopes). Noted a b t (typed_phrase q body)) e h
+
 verdict_is : (p : Place) (fs : List Diagnostic) (sound : Bool) (r r' : Option ValueType) (o : Out) (v : Verdict) → sound ≡ no_faults fs → r ≡ r' → v ≡ o.verdict → verdict_of p sound r (type_of v) ≡ procedure_verdict p fs r' o
 verdict_is p fs sound r r' o v s e w = ap (λ b. verdict_of p b r (type_of v)) s ∙ ap (λ (q : Option ValueType). verdict_of p (no_faults fs) q (type_of v)) e ∙ ap (λ (u : Verdict). verdict_of p (no_faults fs) r' (type_of u)) w ∙ by_faults p fs r' o where
   by_faults : (p : Place) (fs : List Diagnostic) (r : Option ValueType) (o : Out) → verdict_of p (no_faults fs) r (gives o) ≡ procedure_verdict p fs r o

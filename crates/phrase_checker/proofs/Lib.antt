@@ -3,6 +3,7 @@ pub mod BlockSteps
 pub mod CaseSteps
 pub mod ForSteps
 pub mod Givens
+pub mod InBoxes
 pub mod ListSteps
 pub mod Steps
 pub mod Turns

@@ -23,8 +23,6 @@ use Rattle.typed_phrases.specs.declared.actuals.Parts.{Parts}
 use Rattle.typed_phrases.specs.declared.cases.Cases.{Cases}
 use Rattle.typed_phrases.specs.declared.designators.Lists.{Lists}
 use Rattle.typed_phrases.specs.declared.items.Items.{Items}
-use Rattle.declared_names.specs.declared.known.KnownPath.{KnownPath}
-use Rattle.declared_names.specs.KnownPaths.{path_view}
 use Rattle.phrase_checker.specs.declared.checker.Checker.{Checker}
 use Rattle.typed_phrases.specs.declared.making.Spot.{Spot}
 use Rattle.typed_phrases.specs.declared.statements.Range.{Range}
@@ -34,8 +32,8 @@ use Rattle.typed_phrases.specs.declared.making.Links.{Links}
 use Rattle.typed_phrases.specs.FoundParts.{given_view, phrases_view, links_view}
 
 -- what the rules find of a phrase of a kind that stands at a spot
-abbrev pub kind_at : KnownPath → Spot → tree.Kind → Out
-kind_at path spot k = typed_kind (path_view path) spot.place spot.first k
+abbrev pub kind_at : Scopes → Spot → tree.Kind → Out
+kind_at path spot k = typed_kind path spot.place spot.first k
 
 -- the faults inside a phrase are added
 pub record Checked (old new : Checker) (t : Typed) (o : Out) : Type 0 where

@@ -1,6 +1,7 @@
 //! What is found of every phrase of a program: its typed tree, and its faults in the order of the rules.
 #![tactic(auto)]
 
+mod blocks;
 mod checker;
 mod program;
 

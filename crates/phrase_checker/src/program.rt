@@ -35,10 +35,10 @@ fn program_verdict<'a>(place: Place, block: Verdict<'a>) -> Verdict<'a>
 }
 
 /// Checks a program, with the standard names in a block round it.
-pub fn check_program<'a>(
+pub fn check_program<'t, 'a: 't>(
     alloc: Global,
     arena: &'a Bump,
-    phrase: &Phrase,
+    phrase: &'t Phrase,
 ) -> Result<FoundProgram<'a>, AllocError>
     ensures draft { IfOk result (λ found. draft_view found.draft.now ≡ (typed_program (tree phrase.now)).node) }
     ensures faults { IfOk result (λ found. found.faults.items
@@ -49,7 +49,8 @@ pub fn check_program<'a>(
         arena,
         faults: Vec::new(alloc),
     };
-    let typed = checker.phrase(&KnownPath::Standard, phrase)?;
+    let standard: KnownPath<'t, 't, 'a> = KnownPath::standard();
+    let typed = checker.phrase(&standard, phrase)?;
     checker.note(program_verdict(phrase.place, typed.verdict))?;
     Ok(FoundProgram {
         draft: typed.draft,

@@ -19,7 +19,7 @@ use Rattle.typed_drafts.specs.DraftView.{draft_view, formal_view, place_view, pr
 
 pub procedure_at : (p : DraftProc) → procedure_view p ≡ typed.Proc (out-DraftProc p).place (option_map value_type (out-DraftProc p).result) (place_view (out-DraftProc p).name) (map formal_view (out-DraftProc p).formals.now) (draft_view (out-DraftProc p).body.now)
 unfolding out-DraftProc denote.Hole.Carrier.out
-procedure_at (DraftProc' place result name formals q at first kind gives statement) = refl
+procedure_at (DraftProc' place result name formals q at first kind gives) = refl
 
 pub procedure_in : (ns : Numbers) (place : Place) (t : Option SimpleType) (m : ℕ × Place) (fs : Vec TypedFormal Global) (x : Box Node Global)
     → program.procedure_view ns (roll-TypedProc (record { place = place; result = t; name = m; formals = fs; body = x })) ≡ typed.Proc place (option_map (program.type_view ns) t) (program.target_view ns m) (map (program.formal_view ns) fs.items) (program.node_view ns x.value)

@@ -1,5 +1,5 @@
 -- What is made of a typed tree while sets of classes are added to a table.
-use Rattle.std.specs.Prelude.{◌≡◌, ℕ, ◌<◌, ◌++◌, List, length, map, slice_index_or}
+use Rattle.std.specs.Prelude.{◌≡◌, ℕ, ◌<◌, ◌++◌, List, length, map}
 use Rattle.std.specs.List.{All}
 use Rattle.value_ops.specs.declared.places.Place.{Place}
 use Rattle.value_ops.specs.declared.values.ClassId.{ClassId}

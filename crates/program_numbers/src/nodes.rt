@@ -32,7 +32,7 @@ impl Numbering {
     {
         let kind = self.kind(table, &draft.kind)?;
         let gives = self.gives(table, draft.gives)?;
-        let statement = self.statement(draft.statement);
+        let statement = self.statement(draft.first, draft.gives);
         Ok(Node {
             place: draft.place,
             first: draft.first,
@@ -55,7 +55,7 @@ impl Numbering {
             DraftKind::Number(number) => Ok(NodeKind::Number(*number)),
             DraftKind::Truth(truth) => Ok(NodeKind::Truth(*truth)),
             DraftKind::BitsLit(bits) => Ok(NodeKind::BitsLit(*bits)),
-            DraftKind::Quoted(text) => Ok(NodeKind::Quoted(Box::new(self.alloc, **text)?)),
+            DraftKind::Quoted(text) => Ok(NodeKind::Quoted(self.literal(text)?)),
             DraftKind::Goto(label) => Ok(NodeKind::Goto(self.names.number(*label))),
             DraftKind::Named(name, lists) => self.named(table, *name, lists),
             DraftKind::Negated(operand) => Ok(NodeKind::Negated(self.boxed(table, operand)?)),
@@ -63,24 +63,32 @@ impl Numbering {
             DraftKind::Signed(minus, operand) => {
                 Ok(NodeKind::Signed(*minus, self.boxed(table, operand)?))
             }
-            DraftKind::Chain(first, links) => self.chain(table, first, links),
+            DraftKind::Chain(chain) => self.chain(table, chain.first, chain.links),
             DraftKind::Relation(op, left, right) => self.relation(table, *op, left, right),
             DraftKind::IsClass(operand, class, at) => self.is_class(table, operand, *class, *at),
             DraftKind::Assign(left, right) => self.assign(table, left, right),
-            DraftKind::IfThen(condition, then, otherwise) => {
-                self.conditional(table, condition, then, *otherwise)
-            }
-            DraftKind::CaseValue(subject, values) => self.case_value(table, subject, values),
-            DraftKind::CaseDo(subject, parts) => self.case_do(table, subject, parts),
-            DraftKind::ForStep(control, start, step, limit, body) => {
-                self.stepped(table, *control, start, *step, limit, body)
-            }
-            DraftKind::ForList(control, values, body) => {
-                self.listed(table, *control, values, body)
+            DraftKind::IfThen(conditional) => self.conditional(
+                table,
+                conditional.condition,
+                conditional.then,
+                conditional.otherwise,
+            ),
+            DraftKind::CaseValue(case) => self.case_value(table, case.subject, case.values),
+            DraftKind::CaseDo(case) => self.case_do(table, case.subject, case.parts),
+            DraftKind::ForStep(stepped) => self.stepped(
+                table,
+                stepped.control,
+                stepped.start,
+                stepped.step,
+                stepped.limit,
+                stepped.body,
+            ),
+            DraftKind::ForList(listed) => {
+                self.listed(table, listed.control, listed.values, listed.body)
             }
             DraftKind::WhileDo(condition, body) => self.while_do(table, condition, body),
             DraftKind::Assert(condition) => Ok(NodeKind::Assert(self.boxed(table, condition)?)),
-            DraftKind::Block(decls, items) => self.block(table, decls, items),
+            DraftKind::Block(block) => self.block(table, block.decls, block.items),
         }
     }
 

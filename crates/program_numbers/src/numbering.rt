@@ -4,18 +4,23 @@ ghost use Rattle.algolw_typing.specs.Known.{AllHad, KnowsType, KnowsResult, Know
 ghost use Rattle.algolw_typing.specs.ProgramView.{numbered, set_view, type_view, gives_view};
 ghost use Rattle.algolw_typing.specs.Types.{has};
 ghost use Rattle.record_classes.specs.Classes.{set_of};
+ghost use Rattle.typed_drafts.specs.DraftView as drafts;
 ghost use Rattle.typed_drafts.specs.DraftView.{placed_view};
 ghost use Rattle.typing_rules.specs.ClassSets.{Rising};
-ghost use Rattle.typing_rules.specs.View.{value_type, phrase_type};
+ghost use Rattle.typing_rules.specs.View.{value_type};
 ghost use Rattle.program_numbers.specs.Makes.{Makes, HasMembers, places_in, target_in};
 ghost use Rattle.program_numbers.specs.Numbered.{StatementNumbered};
 
 use crate::place_numbers::PlaceNumbers;
 use crate::table_builder::TableBuilder;
-use algolw_tree::{Gives, Targets};
+use algolw_tree::{Gives, Literal, Targets};
 use std::alloc::{AllocError, Global};
+use typed_drafts::DraftGives;
 use typing_rules::{PhraseType, ValueType};
 use value_ops::{ClassId, Place, SetId, SimpleType};
+
+/// How many characters a string that is written out has at most.
+const LONGEST: usize = 80;
 
 /// The numbers of names, record classes and statements, by their places.
 #[derive(Drop)]
@@ -56,15 +61,26 @@ impl Numbering {
         Ok(targets)
     }
 
-    /// The number of a statement.
-    pub fn statement(&self, statement: Option<Place>) -> Option<u32>
-        requires { StatementNumbered self.now statement }
-        ensures { option_map (numbered self.now.statements) result ≡ statement }
+    /// The number of a phrase with this first token, where it is a statement that is counted.
+    pub fn statement(&self, first: Place, gives: DraftGives) -> Option<u32>
+        requires { StatementNumbered self.now (drafts.counted_view first gives) }
+        ensures { option_map (numbered self.now.statements) result ≡ drafts.counted_view first gives.entry }
     {
-        match statement {
-            Some(place) => Some(self.statements.number(place)),
-            None => None,
+        match gives {
+            DraftGives::Counted => Some(self.statements.number(first)),
+            _ => None,
         }
+    }
+
+    /// A string that is written out, held apart. The scanner makes none that is too long.
+    pub fn literal(&self, text: &[u8]) -> Result<Box<Literal>, AllocError>
+        ensures { IfOk result (λ held. held.value ≡ text.now) }
+    {
+        if text.len() > LONGEST {
+            return Err(AllocError);
+        }
+        let held = Box::new(self.alloc, Literal::from_slice(text))?;
+        Ok(held)
     }
 
     /// The number of a record class.
@@ -180,13 +196,13 @@ impl Numbering {
     pub fn gives(
         &self,
         table: &mut TableBuilder,
-        gives: Option<PhraseType>,
+        gives: DraftGives,
     ) -> Result<Option<Gives>, AllocError>
-        requires { KnowsGives self.now.classes (option_map phrase_type gives) }
+        requires { KnowsGives self.now.classes (drafts.gives_view gives) }
         ensures { IfOk result (λ made. Makes self.now table.old table.new (λ ns. option_map (gives_view ns) made)
-            (option_map phrase_type gives.entry)) }
+            (drafts.gives_view gives.entry)) }
     {
-        match gives {
+        match gives.phrase_type() {
             Some(PhraseType::Value(of)) => Ok(Some(Gives::Simple(self.simple_type(table, of)?))),
             Some(PhraseType::Statement) => Ok(Some(Gives::Statement)),
             None => Ok(None),

@@ -1,3 +1,4 @@
+pub mod CellShown
 pub mod DumpLines
 pub mod RecordShown
 pub mod RunShown

@@ -5,7 +5,6 @@ use Rattle.std.specs.Option.{option_map}
 use Rattle.value_ops.specs.declared.values.Value.TheVariants as value
 use Rattle.cell_store.specs.declared.cells.Wide.{Wide}
 use Rattle.cell_store.specs.declared.cells.Wide.TheVariants as wide
-use Rattle.cell_store.specs.declared.cells.Word.TheVariants as word
 use Rattle.cell_store.specs.declared.dimension.Dimension.{Dimension}
 use Rattle.cell_store.specs.declared.entries.Entry.{Entry}
 use Rattle.cell_store.specs.declared.entries.Entry.TheVariants as entry
@@ -21,7 +20,7 @@ use Rattle.stack_code.specs.Limits.{CodeRuns}
 use Rattle.stack_code.specs.Code.{procedure_head, text_head}
 use Rattle.stack_code.specs.Machine.{Machine}
 use Rattle.stack_code.specs.Run.{name_of, first_of, shown_cell}
-use Rattle.machine_rows.specs.declared.held.Held.TheVariants as held
+use Rattle.cell_store.specs.declared.cells.Word.TheVariants as held
 use Rattle.machine_rows.specs.declared.state.State.{State}
 use Rattle.machine_rows.specs.Seen.{Seen, EntryFits, machine_of, content_of}
 
@@ -30,7 +29,7 @@ abbrev pub memory_seen : CodeView → Seen
 memory_seen c = record { setting = record { steps = 0; lines = 0; cards = [] }; code = c; pc = 0; pieces = []; begun = [] }
 
 abbrev pub shown_machine : CodeView → State → Machine
-shown_machine c s = machine_of (memory_seen c) s (held.Word word.Nothing)
+shown_machine c s = machine_of (memory_seen c) s held.Nothing
 
 -- what a dump looks up is there
 pub record CanBeShown (c : CodeView) (s : State) : Type 0 where

@@ -1,5 +1,6 @@
-ghost use Rattle.std.specs.Prelude.{◌≡◌, ◌≤◌, ◌<◌, ◌++◌, [], ◌∷◌, map, take, length, slice_get, vec_capacity, Some, IfSome, option_copied};
-ghost use Rattle.cell_store.specs.Cells.{a_word};
+ghost use Rattle.std.specs.Prelude.{◌≡◌, ◌≤◌, ◌<◌, ◌++◌, [], ◌∷◌, map, take, length, slice_get, vec_capacity, false, Some, IfSome, option_copied};
+ghost use Rattle.cell_store.specs.Words.{is_wide};
+ghost use Rattle.cell_store.specs.Held.{word_cell};
 ghost use Rattle.post_mortem.specs.declared.entries.Entry.TheVariants as line;
 ghost use Rattle.post_mortem.specs.Dump.{dump_text, IfShown};
 ghost use Rattle.post_mortem.specs.Shown.{shown_text, DimensionsFit, IsNoRecord};
@@ -153,33 +154,39 @@ fn add_name(lines: &mut Vec<Line>, code: &Code, name: u32, shown: Shown)
 }
 
 /// What a cell holds, as it is shown.
+#[tactic(auto, using(crate::proofs::CellShown::wide_cell_shown, crate::proofs::CellShown::word_cell_shown))]
 fn shown_cell(state: &State, code: &Code, cell: u32) -> Shown
     requires { CanBeShown code.now state.now }
     ensures text { shown_text result ≡ shown_text (dumped.cell_shown code.now state.now (slice_get state.now.store.cells cell)) }
     ensures dimensions { DimensionsFit result }
     ensures no_record { IsNoRecord result }
 {
-    match state.store.cell(cell) {
-        Some(word) => shown_word(state, code, word),
-        None => shown_wide(state.store.wide_cell(cell)),
+    let word = state.store.cell(cell);
+    if word.is_wide() {
+        shown_wide(state.store.wide_cell(cell))
+    } else {
+        shown_word(state, code, word)
     }
 }
 
 /// What a word is, as it is shown.
 fn shown_word(state: &State, code: &Code, word: Word) -> Shown
-    requires { CanBeShown code.now state.now }
-    ensures shown { result ≡ dumped.cell_shown code.now state.now (Some (a_word word)) }
+    requires can { CanBeShown code.now state.now }
+    requires word { is_wide word ≡ false }
+    ensures shown { result ≡ dumped.cell_shown code.now state.now (Some (word_cell word)) }
     ensures dimensions { DimensionsFit result }
     ensures no_record { IsNoRecord result }
 {
     match word {
         Word::Nothing => Shown::Undefined,
         Word::Integer(number) => Shown::Simple(Value::Integer(number)),
-        Word::Logical(truth) => Shown::Simple(Value::Logical(truth)),
+        Word::True => Shown::Simple(Value::Logical(true)),
+        Word::False => Shown::Simple(Value::Logical(false)),
         Word::Bits(bits) => Shown::Simple(Value::Bits(bits)),
-        Word::Reference(None) => Shown::Simple(Value::Reference(None)),
-        Word::Reference(Some(record)) => shown_record(state, code, record),
-        Word::Place(_) => Shown::ByName,
+        Word::Null => Shown::Simple(Value::Reference(None)),
+        Word::Record(number) => shown_record(state, code, Word::told(number)),
+        Word::Cell(_) | Word::Field(_) => Shown::ByName,
+        Word::Wide => unreachable!(),
     }
 }
 

@@ -1,4 +1,4 @@
 pub mod Turns
-pub mod Chains
+pub mod Made
 pub mod Shrink
 pub mod Labels

@@ -1,15 +1,15 @@
 ghost use Rattle.std.specs.Prelude.{◌≡◌, map, IfOk};
-ghost use Rattle.algolw_tree.specs.Tree.{ForList, Array as ArrayDecl, Linked, OfActuals};
+ghost use Rattle.algolw_tree.specs.Tree.{ForList as ListedLoop, ForStep as SteppedLoop, IfThen, Array as ArrayDecl, Linked, OfActuals};
 ghost use Rattle.algolw_tree.specs.Grammar.{at, phrases_of, bounds_of, actuals_of, block_of, named_of, chain_of, case_of, case_value, case_do};
 ghost use Rattle.token_reader.specs.Gives.{boxed_tree};
-ghost use Rattle.algolw_tree.specs.View.{tree, kind_tree, spec_tree, decl_tree, item_tree, part_tree, bound_tree, list_tree, link_tree, actual_tree};
+ghost use Rattle.algolw_tree.specs.View.{tree, kind_tree, spec_tree, decl_tree, item_tree, part_tree, bound_tree, list_tree, link_tree, actual_tree, optional_tree};
 
 use algolw_tree::{
-    Actual, Bound, Decl, Item, Kind, Link, List, ListKind, Names, Op, Part, Phrase, Spelling,
-    TypeSpec,
+    Actual, Block, Bound, CaseDo, CaseValue, Chain, Conditional, Decl, ForList, ForStep, Item,
+    Kind, Link, List, ListKind, Listed, Names, Op, Part, Phrase, Spelling, TypeSpec,
 };
 use std::alloc::{AllocError, Global};
-use value_ops::{Name, Place};
+use value_ops::Place;
 
 /// A phrase whose place is that of its first token.
 pub fn at(place: Place, kind: Kind) -> Phrase
@@ -22,19 +22,41 @@ pub fn at(place: Place, kind: Kind) -> Phrase
     }
 }
 
-/// A name with its lists.
-pub fn named(alloc: Global, name: (Name, Place), lists: Vec<List>) -> Result<Phrase, AllocError>
-    ensures { IfOk result (λ named. tree named ≡ named_of (name, map list_tree lists.items)) }
+/// The same in a box.
+fn boxed(alloc: Global, place: Place, kind: Kind) -> Result<Box<Phrase>, AllocError>
+    ensures { IfOk result (λ phrase. boxed_tree phrase ≡ at place (kind_tree kind)) }
 {
-    let spelling = Spelling::new(alloc, name.0)?;
-    Ok(at(name.1, Kind::Named(spelling, lists)))
+    let phrase = Box::new(alloc, at(place, kind))?;
+    Ok(phrase)
+}
+
+/// A name with its lists.
+pub fn named(
+    alloc: Global,
+    name: (Spelling, Place),
+    lists: Vec<List>,
+) -> Result<Box<Phrase>, AllocError>
+    ensures { IfOk result (λ named. boxed_tree named ≡ named_of (name, map list_tree lists.items)) }
+{
+    let (name, place) = name;
+    if lists.is_empty() {
+        return boxed(alloc, place, Kind::Named(name));
+    }
+    let listed = Box::new(alloc, Listed { name, lists })?;
+    boxed(alloc, place, Kind::Listed(listed))
 }
 
 /// A block.
-pub fn block(place: Place, decls: Vec<Decl>, items: Vec<Item>) -> Phrase
-    ensures { tree result ≡ block_of (place, (map decl_tree decls.items, map item_tree items.items)) }
+pub fn block(
+    alloc: Global,
+    place: Place,
+    decls: Vec<Decl>,
+    items: Vec<Item>,
+) -> Result<Box<Phrase>, AllocError>
+    ensures { IfOk result (λ block. boxed_tree block ≡ block_of (place, (map decl_tree decls.items, map item_tree items.items))) }
 {
-    at(place, Kind::Block(decls, items))
+    let block = Box::new(alloc, Block { decls, items })?;
+    boxed(alloc, place, Kind::Block(block))
 }
 
 /// An operator and the operand behind it.
@@ -60,29 +82,96 @@ pub fn chained(
         return Ok(first);
     }
     let place = first.first;
-    let chain = Box::new(alloc, at(place, Kind::Chain(first, links)))?;
-    Ok(chain)
+    let first = Box::into_inner(first);
+    let chain = Box::new(alloc, Chain { first, links })?;
+    boxed(alloc, place, Kind::Chain(chain))
+}
+
+/// An IF, with what is done otherwise, where that is said.
+pub fn conditional(
+    alloc: Global,
+    place: Place,
+    condition: Box<Phrase>,
+    then: Box<Phrase>,
+    otherwise: Option<Box<Phrase>>,
+) -> Result<Box<Phrase>, AllocError>
+    ensures { IfOk result (λ phrase. boxed_tree phrase ≡ at place (IfThen (boxed_tree condition) (boxed_tree then) (optional_tree otherwise))) }
+{
+    let conditional = Conditional {
+        condition: Box::into_inner(condition),
+        then: Box::into_inner(then),
+        otherwise,
+    };
+    let conditional = Box::new(alloc, conditional)?;
+    boxed(alloc, place, Kind::IfThen(conditional))
 }
 
 /// A CASE with values.
-pub fn case_value(place: Place, subject: Box<Phrase>, values: Vec<Phrase>) -> Phrase
-    ensures { tree result ≡ case_of (place, case_value (map tree values.items) (tree subject.value)) }
+pub fn case_value(
+    alloc: Global,
+    place: Place,
+    selector: Box<Phrase>,
+    values: Vec<Phrase>,
+) -> Result<Box<Phrase>, AllocError>
+    ensures { IfOk result (λ phrase. boxed_tree phrase ≡ case_of (place, case_value (map tree values.items) (boxed_tree selector))) }
 {
-    at(place, Kind::CaseValue(subject, values))
+    let selector = Box::into_inner(selector);
+    let choice = Box::new(alloc, CaseValue { selector, values })?;
+    boxed(alloc, place, Kind::CaseValue(choice))
 }
 
 /// A CASE with statements.
-pub fn case_do(place: Place, subject: Box<Phrase>, parts: Vec<Part>) -> Phrase
-    ensures { tree result ≡ case_of (place, case_do (map part_tree parts.items) (tree subject.value)) }
+pub fn case_do(
+    alloc: Global,
+    place: Place,
+    selector: Box<Phrase>,
+    parts: Vec<Part>,
+) -> Result<Box<Phrase>, AllocError>
+    ensures { IfOk result (λ phrase. boxed_tree phrase ≡ case_of (place, case_do (map part_tree parts.items) (boxed_tree selector))) }
 {
-    at(place, Kind::CaseDo(subject, parts))
+    let selector = Box::into_inner(selector);
+    let choice = Box::new(alloc, CaseDo { selector, parts })?;
+    boxed(alloc, place, Kind::CaseDo(choice))
 }
 
 /// A FOR with a list of values.
-pub fn for_list(place: Place, control: Spelling, values: Vec<Phrase>, body: Box<Phrase>) -> Phrase
-    ensures { tree result ≡ at place (ForList control (phrases_of (map tree values.items)) (tree body.value)) }
+pub fn for_list(
+    alloc: Global,
+    place: Place,
+    control: (Spelling, Place),
+    values: Vec<Phrase>,
+    body: Box<Phrase>,
+) -> Result<Box<Phrase>, AllocError>
+    ensures { IfOk result (λ phrase. boxed_tree phrase ≡ at place (ListedLoop control.0 (phrases_of (map tree values.items)) (boxed_tree body))) }
 {
-    at(place, Kind::ForList(control, values, body))
+    let (name, _) = control;
+    let body = Box::into_inner(body);
+    let list = Box::new(alloc, ForList { name, values, body })?;
+    boxed(alloc, place, Kind::ForList(list))
+}
+
+/// A FOR with a limit, and with a step where one is written.
+pub fn for_step(
+    alloc: Global,
+    place: Place,
+    control: (Spelling, Place),
+    start: Phrase,
+    step: Option<Box<Phrase>>,
+    limit: Box<Phrase>,
+    body: Box<Phrase>,
+) -> Result<Box<Phrase>, AllocError>
+    ensures { IfOk result (λ phrase. boxed_tree phrase ≡ at place (SteppedLoop control.0 (tree start) (optional_tree step) (boxed_tree limit) (boxed_tree body))) }
+{
+    let (name, _) = control;
+    let steps = ForStep {
+        name,
+        start,
+        step,
+        limit: Box::into_inner(limit),
+        body: Box::into_inner(body),
+    };
+    let steps = Box::new(alloc, steps)?;
+    boxed(alloc, place, Kind::ForStep(steps))
 }
 
 /// A list of actuals.

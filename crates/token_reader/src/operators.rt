@@ -9,7 +9,7 @@ ghost use Rattle.token_reader.specs.Levels.{operators, read_operator};
 
 use crate::parser::Parser;
 use crate::stop::Stop;
-use algolw_tree::{Kind, Op, Phrase, RelOp, Spelling, Symbol, TokenKind, Word};
+use algolw_tree::{Kind, Op, Phrase, RelOp, Symbol, TokenKind, Word};
 use value_ops::Place;
 
 /// A level of operators that are chained, from those that bind least on.
@@ -142,7 +142,7 @@ impl Parser<'_> {
         let kind = match &token.kind {
             TokenKind::Number(number) => Kind::Number(*number),
             TokenKind::BitsLit(bits) => Kind::BitsLit(*bits),
-            TokenKind::Quoted(text) => Kind::Quoted(Spelling::new(self.alloc, *text.get())?),
+            TokenKind::Quoted(text) => Kind::Quoted(text.copied(self.alloc)?),
             TokenKind::Word(Word::True) => Kind::Truth(true),
             TokenKind::Word(Word::False) => Kind::Truth(false),
             TokenKind::Word(Word::Null) => Kind::Null,

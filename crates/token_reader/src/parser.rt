@@ -1,4 +1,4 @@
-ghost use Rattle.std.specs.Prelude.{◌≡◌, suc, None, IfOk, MatchOption};
+ghost use Rattle.std.specs.Prelude.{◌≡◌, suc, None, is_some, IfOk, MatchOption};
 ghost use Rattle.algolw_tree.specs.Parts.{follow, is_else};
 ghost use Rattle.algolw_tree.specs.Grammar.{empty_at, goto_of};
 ghost use Rattle.algolw_tree.specs.Tree as T;
@@ -8,12 +8,12 @@ ghost use Rattle.algolw_grammar.specs.Readers.{read_empty, read_token, read_deep
 ghost use Rattle.algolw_grammar.specs.Reading.{read_word, read_symbol, read_name, read_number, read_goto, first_phrase, first_goto, first_decl, listing_values};
 ghost use Rattle.algolw_grammar.specs.Taken.{is_word, is_symbol, finish_taken, label_taken};
 ghost use Rattle.token_reader.specs.declared.stop.Stop.TheVariants.{Unexpected, TooDeep};
-ghost use Rattle.token_reader.specs.Gives.{Gives, Fails, place_at, ReadsLabel, ReadsLabels};
+ghost use Rattle.token_reader.specs.Gives.{Gives, Fails, place_at, label_at, ReadsLabel, ReadsLabels};
 
 use crate::stop::Stop;
 use algolw_tree::{Kind, Names, Phrase, Spelling, Symbol, Token, TokenKind, Word};
 use std::alloc::{AllocError, Global};
-use value_ops::{Name, Place};
+use value_ops::Place;
 
 /// What is left to be read. Each method that reads gives what its line of the grammar says, and leaves what stands behind it.
 #[derive(Drop)]
@@ -253,7 +253,7 @@ impl Parser<'_> {
     }
 
     /// A name, and its place.
-    pub fn expect_name(&mut self) -> Result<(Name, Place), Stop>
+    pub fn expect_name(&mut self) -> Result<(Spelling, Place), Stop>
         ensures { Gives (λ x. x) result self.new.rest.now (read_name self.old.rest.now) }
     {
         match self.rest {
@@ -264,8 +264,9 @@ impl Parser<'_> {
                 },
                 rest @ ..,
             ] => {
+                let name = name.copied(self.alloc)?;
                 self.rest = rest;
-                Ok((*name.get(), *place))
+                Ok((name, *place))
             }
             _ => Err(self.unexpected()),
         }
@@ -308,36 +309,50 @@ impl Parser<'_> {
         if self.at_word(Word::Goto) {
             let first = self.expect_word(Word::Goto)?;
             let label = self.expect_name()?;
-            Ok(jump_to(self.alloc, first, label)?)
+            Ok(jump_to(first, label))
         } else {
             let first = self.expect_word(Word::Go)?;
             self.expect_word(Word::To)?;
             let label = self.expect_name()?;
-            Ok(jump_to(self.alloc, first, label)?)
+            Ok(jump_to(first, label))
+        }
+    }
+
+    /// Whether a label stands here.
+    fn at_label(&self) -> bool
+        ensures { result ≡ is_some (label_at self.now.rest.now) }
+    {
+        match self.rest {
+            [name, colon, ..] => matches!(name.kind, TokenKind::Named(_))
+                && is_symbol(&colon.kind, Symbol::Colon),
+            _ => false,
         }
     }
 
     /// `name ":"`, where it stands here.
-    fn label(&mut self) -> Option<(Name, Place)>
-        ensures { ReadsLabel result self.old.rest.now self.new.rest.now }
+    fn label(&mut self) -> Result<Option<(Spelling, Place)>, AllocError>
+        ensures { IfOk result (λ label. ReadsLabel label self.old.rest.now self.new.rest.now) }
     {
         let [name, behind @ ..] = self.rest else {
-            return None;
+            return Ok(None);
         };
         let [colon, rest @ ..] = behind else {
-            return None;
+            return Ok(None);
         };
-        let label = label_of(name, colon)?;
-        self.rest = rest;
-        Some(label)
+        let label = label_of(self.alloc, name, colon)?;
+        if label.is_some() {
+            self.rest = rest;
+        }
+        Ok(label)
     }
 
     /// `{ name ":" }`
     pub fn labels(&mut self) -> Result<Names, Stop>
         ensures { ReadsLabels result self.old.rest.now self.new.rest.now }
     {
-        let mut labels = Vec::new(self.alloc);
-        'turns: while let Some(label) = self.label() {
+        // Where there is one, there are mostly no more.
+        let mut labels = Vec::with_capacity(self.alloc, usize::from(self.at_label()))?;
+        'turns: while let Some(label) = self.label()? {
             labels.push(label)?;
         }
         Ok(labels)
@@ -352,25 +367,30 @@ pub fn inside(room: u32) -> Option<u32>
 }
 
 /// The label that a name and a colon are.
-fn label_of(name: &Token, colon: &Token) -> Option<(Name, Place)>
-    ensures { result ≡ label_taken name.now colon.now }
+fn label_of(
+    alloc: Global,
+    name: &Token,
+    colon: &Token,
+) -> Result<Option<(Spelling, Place)>, AllocError>
+    ensures { IfOk result (λ label. label ≡ label_taken name.now colon.now) }
 {
     match &name.kind {
         TokenKind::Named(label) if is_symbol(&colon.kind, Symbol::Colon) => {
-            Some((*label.get(), name.place))
+            let label = label.copied(alloc)?;
+            Ok(Some((label, name.place)))
         }
-        _ => None,
+        _ => Ok(None),
     }
 }
 
 /// A jump to a label, which begins at a place.
-fn jump_to(alloc: Global, first: Place, label: (Name, Place)) -> Result<Phrase, AllocError>
-    ensures { IfOk result (λ jump. tree jump ≡ goto_of (first, label)) }
+fn jump_to(first: Place, label: (Spelling, Place)) -> Phrase
+    ensures { tree result ≡ goto_of (first, label) }
 {
-    let name = Spelling::new(alloc, label.0)?;
-    Ok(Phrase {
-        place: label.1,
+    let (name, place) = label;
+    Phrase {
+        place,
         first,
         kind: Kind::Goto(name),
-    })
+    }
 }

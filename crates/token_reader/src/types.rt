@@ -7,8 +7,8 @@ ghost use Rattle.token_reader.specs.Gives.{Gives, read_behind, read_given, group
 
 use crate::parser::Parser;
 use crate::stop::Stop;
-use algolw_tree::{ClassDecl, Decl, Formal, Mode, Names, Symbol, TypeSpec, Word};
-use value_ops::{Name, Place};
+use algolw_tree::{ClassDecl, Decl, Formal, Mode, Names, Spelling, Symbol, TypeSpec, Word};
+use value_ops::Place;
 
 impl Parser<'_> {
     /// `name { "," name }`
@@ -21,11 +21,11 @@ impl Parser<'_> {
     }
 
     /// `{ "," name }`, behind the first name.
-    fn later_names(&mut self, first: (Name, Place)) -> Result<Names, Stop>
+    fn later_names(&mut self, first: (Spelling, Place)) -> Result<Names, Stop>
         ensures { Gives (λ x. x.items) result self.new.rest.now
             (read_behind first Comma read_name self.old.rest.now) }
     {
-        let mut names = Vec::new(self.alloc);
+        let mut names = Vec::with_capacity(self.alloc, 1)?;
         names.push(first)?;
         'turns: while self.at_symbol(Symbol::Comma) {
             let one = self.later_name()?;
@@ -35,7 +35,7 @@ impl Parser<'_> {
     }
 
     /// `"," name`
-    fn later_name(&mut self) -> Result<(Name, Place), Stop>
+    fn later_name(&mut self) -> Result<(Spelling, Place), Stop>
         ensures { Gives (λ x. x) result self.new.rest.now
             (read_right (read_symbol Comma) read_name self.old.rest.now) }
     {

@@ -1,24 +1,28 @@
 -- What kinds of drafts are, with their rows read as lists.
-use Rattle.std.proofs.Common.{◌≡◌, List, Option, Some, None, refl, ap, ◌∙◌}
+use Rattle.std.proofs.Common.{◌≡◌, List, refl, sym, ap, ◌∙◌}
 use Rattle.std.specs.Prelude.{map}
 use Rattle.std.specs.Borrow.{Bor}
 use Rattle.value_ops.specs.declared.places.Place.{Place}
 use Rattle.typing_rules.specs.declared.types.ValueType.{ValueType}
 use Rattle.typing_rules.specs.View.{value_type}
 use Rattle.algolw_typing.specs.Typed as typed
-use Rattle.typed_drafts.specs.declared.drafts.Draft.{Draft}
 use Rattle.typed_drafts.specs.declared.drafts.DraftLink.{DraftLink, DraftLink', out-DraftLink}
 use Rattle.typed_drafts.specs.declared.drafts.DraftList.{DraftList}
-use Rattle.typed_drafts.specs.declared.drafts.DraftItem.{DraftItem}
 use Rattle.typed_drafts.specs.declared.drafts.DraftLabelled.{DraftLabelled, DraftLabelled', out-DraftLabelled}
-use Rattle.typed_drafts.specs.declared.drafts.DraftPart.{DraftPart}
 use Rattle.typed_drafts.specs.declared.drafts.DraftActual.{DraftActual}
 use Rattle.typed_drafts.specs.declared.drafts.DraftBound.{DraftBound}
 use Rattle.typed_drafts.specs.declared.drafts.DraftKind.{DraftKind, Named, Chain, IfThen, CaseValue, CaseDo, ForStep, ForList, Block}
+use Rattle.typed_drafts.specs.declared.drafts.DraftChain.{DraftChain, roll-DraftChain, out-DraftChain, roll-out-DraftChain}
+use Rattle.typed_drafts.specs.declared.drafts.DraftIfThen.{DraftIfThen, DraftIfThen', out-DraftIfThen}
+use Rattle.typed_drafts.specs.declared.drafts.DraftCaseValue.{DraftCaseValue, roll-DraftCaseValue, out-DraftCaseValue, roll-out-DraftCaseValue}
+use Rattle.typed_drafts.specs.declared.drafts.DraftCaseDo.{DraftCaseDo, roll-DraftCaseDo, out-DraftCaseDo, roll-out-DraftCaseDo}
+use Rattle.typed_drafts.specs.declared.drafts.DraftForStep.{DraftForStep, DraftForStep', out-DraftForStep, Some', None'}
+use Rattle.typed_drafts.specs.declared.drafts.DraftForList.{DraftForList, roll-DraftForList, out-DraftForList, roll-out-DraftForList}
+use Rattle.typed_drafts.specs.declared.drafts.DraftBlock.{DraftBlock}
+use Rattle.typed_drafts.specs.declared.drafts.DraftActual.TheBlock.{hidden-the_row-DraftItem-3}
 use Rattle.typed_drafts.specs.declared.drafts.DraftListKind.{DraftListKind, Actuals}
 use Rattle.typed_drafts.specs.declared.drafts.DraftDecl.{DraftDecl, Array}
-use Rattle.typed_drafts.specs.declared.drafts.DraftActual.TheBlock.{hidden-the_row-DraftItem-6}
-use Rattle.typed_drafts.specs.DraftView.{draft_view, kind_view, placed_view, link_view, part_view, listing_view, actual_view, item_view, items_view, labelled_view, decl_view}
+use Rattle.typed_drafts.specs.DraftView.{draft_view, kind_view, chain_view, if_view, case_value_view, case_do_view, for_step_view, for_list_view, placed_view, link_view, part_view, listing_view, actual_view, item_view, items_view, labelled_view, decl_view}
 use Rattle.typed_drafts.specs.DraftParts.{list_view, bound_view}
 use Rattle.typed_drafts.specs.Onto.{nodes_onto, links_onto, lists_onto, actuals_onto, items_onto, decls_onto, bounds_onto}
 use Rattle.typed_drafts.specs.StatementParts.{perhaps_of}
@@ -27,38 +31,60 @@ use Rattle.typed_drafts.proofs.DraftRows.{slice_nodes, slice_links, slice_parts,
 pub named_at : (k : DraftKind) (n : Place) (v : Bor (List DraftList)) → k ≡ Named n v → kind_view k ≡ typed.Named n (lists_onto (map list_view v.now) typed.no_lists)
 named_at k n v e = ap kind_view e ∙ ap (typed.Named n) (slice_lists v.now)
 
-pub chain_at : (k : DraftKind) (b : Bor Draft) (v : Bor (List DraftLink)) → k ≡ Chain b v → kind_view k ≡ typed.Chain (draft_view b.now) (links_onto (map link_view v.now) typed.no_links)
-chain_at k b v e = ap kind_view e ∙ ap (typed.Chain (draft_view b.now)) (slice_links v.now)
+-- ---- what stands behind a reference
 
-pub case_value_at : (k : DraftKind) (b : Bor Draft) (v : Bor (List Draft)) → k ≡ CaseValue b v → kind_view k ≡ typed.CaseValue (draft_view b.now) (nodes_onto (map draft_view v.now) typed.no_nodes)
-case_value_at k b v e = ap kind_view e ∙ ap (typed.CaseValue (draft_view b.now)) (slice_nodes v.now)
+pub chain_of : (c : DraftChain) → chain_view c ≡ typed.Chain (draft_view (out-DraftChain c).first.now) (links_onto (map link_view (out-DraftChain c).links.now) typed.no_links)
+unfolding roll-DraftChain denote.Hole.Carrier.roll
+chain_of c = ap chain_view (sym (roll-out-DraftChain c)) ∙ ap (typed.Chain (draft_view (out-DraftChain c).first.now)) (slice_links (out-DraftChain c).links.now)
 
-pub case_do_at : (k : DraftKind) (b : Bor Draft) (v : Bor (List DraftPart)) → k ≡ CaseDo b v → kind_view k ≡ typed.CaseDo (draft_view b.now) (nodes_onto (map part_view v.now) typed.no_nodes)
-case_do_at k b v e = ap kind_view e ∙ ap (typed.CaseDo (draft_view b.now)) (slice_parts v.now)
+pub if_of : (c : DraftIfThen) → if_view c ≡ typed.IfThen (draft_view (out-DraftIfThen c).condition.now) (draft_view (out-DraftIfThen c).then.now) (perhaps_of (out-DraftIfThen c).otherwise)
+unfolding out-DraftIfThen denote.Hole.Carrier.out
+if_of (DraftIfThen' q p f k g q2 p2 f2 k2 g2 None') = refl
+if_of (DraftIfThen' q p f k g q2 p2 f2 k2 g2 (Some' q3 p3 f3 k3 g3)) = refl
 
-if_option : (a b : Bor Draft) (o : Option (Bor Draft)) → kind_view (IfThen a b o) ≡ typed.IfThen (draft_view a.now) (draft_view b.now) (perhaps_of o)
-if_option a b None = refl
-if_option a b (Some s) = refl
+pub case_value_of : (c : DraftCaseValue) → case_value_view c ≡ typed.CaseValue (draft_view (out-DraftCaseValue c).subject.now) (nodes_onto (map draft_view (out-DraftCaseValue c).values.now) typed.no_nodes)
+unfolding roll-DraftCaseValue denote.Hole.Carrier.roll
+case_value_of c = ap case_value_view (sym (roll-out-DraftCaseValue c)) ∙ ap (typed.CaseValue (draft_view (out-DraftCaseValue c).subject.now)) (slice_nodes (out-DraftCaseValue c).values.now)
 
-pub if_at : (k : DraftKind) (a b : Bor Draft) (o : Option (Bor Draft)) → k ≡ IfThen a b o → kind_view k ≡ typed.IfThen (draft_view a.now) (draft_view b.now) (perhaps_of o)
-if_at k a b o e = ap kind_view e ∙ if_option a b o
+pub case_do_of : (c : DraftCaseDo) → case_do_view c ≡ typed.CaseDo (draft_view (out-DraftCaseDo c).subject.now) (nodes_onto (map part_view (out-DraftCaseDo c).parts.now) typed.no_nodes)
+unfolding roll-DraftCaseDo denote.Hole.Carrier.roll
+case_do_of c = ap case_do_view (sym (roll-out-DraftCaseDo c)) ∙ ap (typed.CaseDo (draft_view (out-DraftCaseDo c).subject.now)) (slice_parts (out-DraftCaseDo c).parts.now)
 
-for_option : (n : Place) (a : Bor Draft) (o : Option (Bor Draft)) (b c : Bor Draft) → kind_view (ForStep n a o b c) ≡ typed.ForStep n (draft_view a.now) (perhaps_of o) (draft_view b.now) (draft_view c.now)
-for_option n a None b c = refl
-for_option n a (Some s) b c = refl
+pub for_step_of : (l : DraftForStep)
+    → for_step_view l ≡ typed.ForStep (out-DraftForStep l).control (draft_view (out-DraftForStep l).start.now) (perhaps_of (out-DraftForStep l).step) (draft_view (out-DraftForStep l).limit.now) (draft_view (out-DraftForStep l).body.now)
+unfolding out-DraftForStep denote.Hole.Carrier.out
+for_step_of (DraftForStep' n q p f k g None' q2 p2 f2 k2 g2 q3 p3 f3 k3 g3) = refl
+for_step_of (DraftForStep' n q p f k g (Some' q4 p4 f4 k4 g4) q2 p2 f2 k2 g2 q3 p3 f3 k3 g3) = refl
 
-pub for_step_at : (k : DraftKind) (n : Place) (a : Bor Draft) (o : Option (Bor Draft)) (b c : Bor Draft) → k ≡ ForStep n a o b c
-    → kind_view k ≡ typed.ForStep n (draft_view a.now) (perhaps_of o) (draft_view b.now) (draft_view c.now)
-for_step_at k n a o b c e = ap kind_view e ∙ for_option n a o b c
+pub for_list_of : (l : DraftForList) → for_list_view l ≡ typed.ForList (out-DraftForList l).control (nodes_onto (map draft_view (out-DraftForList l).values.now) typed.no_nodes) (draft_view (out-DraftForList l).body.now)
+unfolding roll-DraftForList denote.Hole.Carrier.roll
+for_list_of l = ap for_list_view (sym (roll-out-DraftForList l)) ∙ ap (λ ys. typed.ForList (out-DraftForList l).control ys (draft_view (out-DraftForList l).body.now)) (slice_nodes (out-DraftForList l).values.now)
 
-pub for_list_at : (k : DraftKind) (n : Place) (v : Bor (List Draft)) (b : Bor Draft) → k ≡ ForList n v b → kind_view k ≡ typed.ForList n (nodes_onto (map draft_view v.now) typed.no_nodes) (draft_view b.now)
-for_list_at k n v b e = ap kind_view e ∙ ap (λ ys. typed.ForList n ys (draft_view b.now)) (slice_nodes v.now)
+-- ---- kinds
 
-pub block_at : (k : DraftKind) (ds : Bor (List DraftDecl)) (is : Bor (List DraftItem)) → k ≡ Block ds is
-    → kind_view k ≡ typed.Block (decls_onto (map decl_view ds.now) typed.no_decls) (items_onto (map item_view is.now) typed.no_items)
-block_at k ds is e =
-    ap kind_view e ∙ ap (λ zs. typed.Block zs (items_view (hidden-the_row-DraftItem-6 is.now))) (slice_decls ds.now)
-    ∙ ap (typed.Block (decls_onto (map decl_view ds.now) typed.no_decls)) (slice_items is.now)
+pub chain_at : (k : DraftKind) (c : Bor DraftChain) → k ≡ Chain c → kind_view k ≡ typed.Chain (draft_view (out-DraftChain c.now).first.now) (links_onto (map link_view (out-DraftChain c.now).links.now) typed.no_links)
+chain_at k c e = ap kind_view e ∙ chain_of c.now
+
+pub if_at : (k : DraftKind) (c : Bor DraftIfThen) → k ≡ IfThen c → kind_view k ≡ typed.IfThen (draft_view (out-DraftIfThen c.now).condition.now) (draft_view (out-DraftIfThen c.now).then.now) (perhaps_of (out-DraftIfThen c.now).otherwise)
+if_at k c e = ap kind_view e ∙ if_of c.now
+
+pub case_value_at : (k : DraftKind) (c : Bor DraftCaseValue) → k ≡ CaseValue c → kind_view k ≡ typed.CaseValue (draft_view (out-DraftCaseValue c.now).subject.now) (nodes_onto (map draft_view (out-DraftCaseValue c.now).values.now) typed.no_nodes)
+case_value_at k c e = ap kind_view e ∙ case_value_of c.now
+
+pub case_do_at : (k : DraftKind) (c : Bor DraftCaseDo) → k ≡ CaseDo c → kind_view k ≡ typed.CaseDo (draft_view (out-DraftCaseDo c.now).subject.now) (nodes_onto (map part_view (out-DraftCaseDo c.now).parts.now) typed.no_nodes)
+case_do_at k c e = ap kind_view e ∙ case_do_of c.now
+
+pub for_step_at : (k : DraftKind) (l : Bor DraftForStep) → k ≡ ForStep l
+    → kind_view k ≡ typed.ForStep (out-DraftForStep l.now).control (draft_view (out-DraftForStep l.now).start.now) (perhaps_of (out-DraftForStep l.now).step) (draft_view (out-DraftForStep l.now).limit.now) (draft_view (out-DraftForStep l.now).body.now)
+for_step_at k l e = ap kind_view e ∙ for_step_of l.now
+
+pub for_list_at : (k : DraftKind) (l : Bor DraftForList) → k ≡ ForList l → kind_view k ≡ typed.ForList (out-DraftForList l.now).control (nodes_onto (map draft_view (out-DraftForList l.now).values.now) typed.no_nodes) (draft_view (out-DraftForList l.now).body.now)
+for_list_at k l e = ap kind_view e ∙ for_list_of l.now
+
+pub block_at : (k : DraftKind) (b : Bor DraftBlock) → k ≡ Block b → kind_view k ≡ typed.Block (decls_onto (map decl_view b.now.decls.now) typed.no_decls) (items_onto (map item_view b.now.items.now) typed.no_items)
+block_at k b e =
+    ap kind_view e ∙ ap (λ zs. typed.Block zs (items_view (hidden-the_row-DraftItem-3 b.now.items.now))) (slice_decls b.now.decls.now)
+    ∙ ap (typed.Block (decls_onto (map decl_view b.now.decls.now) typed.no_decls)) (slice_items b.now.items.now)
 
 pub actuals_at : (p : Place) (k : DraftListKind) (v : Bor (List DraftActual)) → k ≡ Actuals v → listing_view p k ≡ typed.OfActuals p (actuals_onto (map actual_view v.now) typed.no_actuals)
 actuals_at p k v e = ap (listing_view p) e ∙ ap (typed.OfActuals p) (slice_actuals v.now)
@@ -68,8 +94,8 @@ array_at d t ns v e = ap decl_view e ∙ ap (typed.Array (value_type t) (placed_
 
 pub link_at : (l : DraftLink) → link_view l ≡ typed.Linked (out-DraftLink l).op (out-DraftLink l).place (draft_view (out-DraftLink l).right.now)
 unfolding out-DraftLink denote.Hole.Carrier.out
-link_at (DraftLink' op at q p f k g s) = refl
+link_at (DraftLink' op at q p f k g) = refl
 
 pub labelled_at : (l : DraftLabelled) → labelled_view l ≡ typed.Labelled (placed_view (out-DraftLabelled l).labels.now) (draft_view (out-DraftLabelled l).phrase.now)
 unfolding out-DraftLabelled denote.Hole.Carrier.out
-labelled_at (DraftLabelled' labels q p f k g s) = refl
+labelled_at (DraftLabelled' labels q p f k g) = refl

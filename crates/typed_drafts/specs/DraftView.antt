@@ -3,10 +3,18 @@ use Rattle.std.specs.Prelude.{map}
 use Rattle.std.specs.Prelude as std
 use Rattle.std.specs.Option.{option_map}
 use Rattle.value_ops.specs.declared.places.Place.{Place}
-use Rattle.typing_rules.specs.View.{value_type, phrase_type}
-use Rattle.typing_rules.specs.declared.types.PhraseType.{PhraseType}
+use Rattle.typing_rules.specs.View.{value_type, classes_of}
 use Rattle.typed_drafts.specs.declared.drafts.Draft.{Draft}
-use Rattle.typed_drafts.specs.declared.drafts.DraftKind.{DraftKind, Empty, Null, Number, Truth, BitsLit, Quoted, Goto, Named', Negated', Abs', Signed', Chain', Relation', IsClass', Assign', IfThen', CaseValue', CaseDo', ForStep', ForList', WhileDo', Assert', Block', Row_of-DraftLink, end_of-DraftLink, more_of-DraftLink, Row_of-DraftList, end_of-DraftList, more_of-DraftList, Row_of-Draft, end_of-Draft, more_of-Draft, Held-DraftKind-IfThen-2, Some', None', Row_of-DraftPart, end_of-DraftPart, more_of-DraftPart, Row_of-DraftItem, end_of-DraftItem, more_of-DraftItem, Row_of-DraftDecl, end_of-DraftDecl, more_of-DraftDecl}
+use Rattle.typed_drafts.specs.declared.drafts.DraftGives.{DraftGives}
+use Rattle.typed_drafts.specs.declared.drafts.DraftGives.TheVariants as gives
+use Rattle.typed_drafts.specs.declared.drafts.DraftKind.{DraftKind, Empty, Null, Number, Truth, BitsLit, Quoted, Goto, Named', Negated', Abs', Signed', Chain', Relation', IsClass', Assign', IfThen', CaseValue', CaseDo', ForStep', ForList', WhileDo', Assert', Block', Row_of-DraftList, end_of-DraftList, more_of-DraftList}
+use Rattle.typed_drafts.specs.declared.drafts.DraftChain.{DraftChain, DraftChain', Row_of-DraftLink, end_of-DraftLink, more_of-DraftLink}
+use Rattle.typed_drafts.specs.declared.drafts.DraftIfThen.{DraftIfThen, DraftIfThen'}
+use Rattle.typed_drafts.specs.declared.drafts.DraftCaseValue.{DraftCaseValue, DraftCaseValue', Row_of-Draft, end_of-Draft, more_of-Draft}
+use Rattle.typed_drafts.specs.declared.drafts.DraftCaseDo.{DraftCaseDo, DraftCaseDo', Row_of-DraftPart, end_of-DraftPart, more_of-DraftPart}
+use Rattle.typed_drafts.specs.declared.drafts.DraftForStep.{DraftForStep, DraftForStep', Held-DraftForStep-step, Some', None'}
+use Rattle.typed_drafts.specs.declared.drafts.DraftForList.{DraftForList, DraftForList'}
+use Rattle.typed_drafts.specs.declared.drafts.DraftBlock.{Row_of-DraftDecl, end_of-DraftDecl, more_of-DraftDecl, Row_of-DraftItem, end_of-DraftItem, more_of-DraftItem}
 use Rattle.typed_drafts.specs.declared.drafts.DraftLink.{DraftLink, DraftLink'}
 use Rattle.typed_drafts.specs.declared.drafts.DraftActual.{DraftActual, Star, Phrase'}
 use Rattle.typed_drafts.specs.declared.drafts.DraftPart.{DraftPart, Empty as empty_part, Phrase' as phrase_part}
@@ -33,8 +41,24 @@ formal_view f = record { type = option_map value_type f.spec; mode = f.mode; nam
 abbrev pub class_view : DraftClass → typed.Decl
 class_view c = typed.Class (place_view c.name) (map (λ g. record { type = value_type g.0; names = placed_view g.1.now }) c.groups.now)
 
-abbrev pub at_view : Place → Place → std.Option PhraseType → std.Option Place → typed.Kind → typed.Node
-at_view place first g s k = typed.At place first (option_map phrase_type g) s k
+-- what a phrase gives
+abbrev pub gives_view : DraftGives → std.Option types.Gives
+gives_view gives.Untyped = std.None
+gives_view gives.Statement = std.Some types.Statement
+gives_view gives.Counted = std.Some types.Statement
+gives_view gives.Integer = std.Some (types.Simple types.Integer)
+gives_view gives.Logical = std.Some (types.Simple types.Logical)
+gives_view gives.Bits = std.Some (types.Simple types.Bits)
+gives_view (gives.Str n) = std.Some (types.Simple (types.Str n))
+gives_view (gives.Reference set) = std.Some (types.Simple (types.Reference (classes_of set.now)))
+
+-- where a phrase is counted whose first token is at a place: a statement is, at that token
+abbrev pub counted_view : Place → DraftGives → std.Option Place
+counted_view first gives.Counted = std.Some first
+counted_view first g = std.None
+
+abbrev pub at_view : Place → Place → DraftGives → typed.Kind → typed.Node
+at_view place first g k = typed.At place first (gives_view g) (counted_view first g) k
 
 -- nothing, before the token at a place: a statement, but none that is counted
 abbrev pub empty_view : Place → typed.Node
@@ -50,32 +74,50 @@ abbrev mutual
   kind_view (Quoted t) = typed.Quoted t.now
   kind_view (Goto n) = typed.Goto n
   kind_view (Named' n slice shape lists) = typed.Named n (lists_view lists)
-  kind_view (Negated' q p f k g s) = typed.Negated (at_view p f g s (kind_view k))
-  kind_view (Abs' q p f k g s) = typed.Abs (at_view p f g s (kind_view k))
-  kind_view (Signed' minus q p f k g s) = typed.Signed minus (at_view p f g s (kind_view k))
-  kind_view (Chain' q p f k g s slice shape links) = typed.Chain (at_view p f g s (kind_view k)) (links_view links)
-  kind_view (Relation' op q p f k g s q2 p2 f2 k2 g2 s2) = typed.Relation op (at_view p f g s (kind_view k)) (at_view p2 f2 g2 s2 (kind_view k2))
-  kind_view (IsClass' q p f k g s n at) = typed.IsClass (at_view p f g s (kind_view k)) n at
-  kind_view (Assign' q p f k g s q2 p2 f2 k2 g2 s2) = typed.Assign (at_view p f g s (kind_view k)) (at_view p2 f2 g2 s2 (kind_view k2))
-  kind_view (IfThen' q p f k g s q2 p2 f2 k2 g2 s2 otherwise) = typed.IfThen (at_view p f g s (kind_view k)) (at_view p2 f2 g2 s2 (kind_view k2)) (perhaps_view otherwise)
-  kind_view (CaseValue' q p f k g s slice shape values) = typed.CaseValue (at_view p f g s (kind_view k)) (nodes_view values)
-  kind_view (CaseDo' q p f k g s slice shape parts) = typed.CaseDo (at_view p f g s (kind_view k)) (parts_view parts)
-  kind_view (ForStep' n q p f k g s step q2 p2 f2 k2 g2 s2 q3 p3 f3 k3 g3 s3) = typed.ForStep n (at_view p f g s (kind_view k)) (perhaps_view step) (at_view p2 f2 g2 s2 (kind_view k2)) (at_view p3 f3 g3 s3 (kind_view k3))
-  kind_view (ForList' n slice shape values q p f k g s) = typed.ForList n (nodes_view values) (at_view p f g s (kind_view k))
-  kind_view (WhileDo' q p f k g s q2 p2 f2 k2 g2 s2) = typed.WhileDo (at_view p f g s (kind_view k)) (at_view p2 f2 g2 s2 (kind_view k2))
-  kind_view (Assert' q p f k g s) = typed.Assert (at_view p f g s (kind_view k))
-  kind_view (Block' slice shape decls slice2 shape2 items) = typed.Block (decls_view decls) (items_view items)
+  kind_view (Negated' q p f k g) = typed.Negated (at_view p f g (kind_view k))
+  kind_view (Abs' q p f k g) = typed.Abs (at_view p f g (kind_view k))
+  kind_view (Signed' minus q p f k g) = typed.Signed minus (at_view p f g (kind_view k))
+  kind_view (Chain' q chain) = chain_view chain
+  kind_view (Relation' op q p f k g q2 p2 f2 k2 g2) = typed.Relation op (at_view p f g (kind_view k)) (at_view p2 f2 g2 (kind_view k2))
+  kind_view (IsClass' q p f k g n at) = typed.IsClass (at_view p f g (kind_view k)) n at
+  kind_view (Assign' q p f k g q2 p2 f2 k2 g2) = typed.Assign (at_view p f g (kind_view k)) (at_view p2 f2 g2 (kind_view k2))
+  kind_view (IfThen' q conditional) = if_view conditional
+  kind_view (CaseValue' q choice) = case_value_view choice
+  kind_view (CaseDo' q choice) = case_do_view choice
+  kind_view (ForStep' q loop) = for_step_view loop
+  kind_view (ForList' q loop) = for_list_view loop
+  kind_view (WhileDo' q p f k g q2 p2 f2 k2 g2) = typed.WhileDo (at_view p f g (kind_view k)) (at_view p2 f2 g2 (kind_view k2))
+  kind_view (Assert' q p f k g) = typed.Assert (at_view p f g (kind_view k))
+  kind_view (Block' q slice shape decls slice2 shape2 items) = typed.Block (decls_view decls) (items_view items)
+
+  pub chain_view : DraftChain → typed.Kind
+  chain_view (DraftChain' q p f k g slice shape links) = typed.Chain (at_view p f g (kind_view k)) (links_view links)
+
+  pub if_view : DraftIfThen → typed.Kind
+  if_view (DraftIfThen' q p f k g q2 p2 f2 k2 g2 otherwise) = typed.IfThen (at_view p f g (kind_view k)) (at_view p2 f2 g2 (kind_view k2)) (perhaps_view otherwise)
+
+  pub case_value_view : DraftCaseValue → typed.Kind
+  case_value_view (DraftCaseValue' q p f k g slice shape values) = typed.CaseValue (at_view p f g (kind_view k)) (nodes_view values)
+
+  pub case_do_view : DraftCaseDo → typed.Kind
+  case_do_view (DraftCaseDo' q p f k g slice shape parts) = typed.CaseDo (at_view p f g (kind_view k)) (parts_view parts)
+
+  pub for_step_view : DraftForStep → typed.Kind
+  for_step_view (DraftForStep' n q p f k g step q2 p2 f2 k2 g2 q3 p3 f3 k3 g3) = typed.ForStep n (at_view p f g (kind_view k)) (perhaps_view step) (at_view p2 f2 g2 (kind_view k2)) (at_view p3 f3 g3 (kind_view k3))
+
+  pub for_list_view : DraftForList → typed.Kind
+  for_list_view (DraftForList' n slice shape values q p f k g) = typed.ForList n (nodes_view values) (at_view p f g (kind_view k))
 
   pub nodes_view : {m : _} → Row_of-Draft m → typed.Nodes
   nodes_view end_of-Draft = typed.no_nodes
-  nodes_view (more_of-Draft p f k g s rest) = typed.node_and (at_view p f g s (kind_view k)) (nodes_view rest)
+  nodes_view (more_of-Draft p f k g rest) = typed.node_and (at_view p f g (kind_view k)) (nodes_view rest)
 
   pub links_view : {m : _} → Row_of-DraftLink m → typed.Links
   links_view end_of-DraftLink = typed.no_links
   links_view (more_of-DraftLink link rest) = typed.link_and (link_view link) (links_view rest)
 
   pub link_view : DraftLink → typed.Link
-  link_view (DraftLink' op at q p f k g s) = typed.Linked op at (at_view p f g s (kind_view k))
+  link_view (DraftLink' op at q p f k g) = typed.Linked op at (at_view p f g (kind_view k))
 
   pub parts_view : {m : _} → Row_of-DraftPart m → typed.Nodes
   parts_view end_of-DraftPart = typed.no_nodes
@@ -83,7 +125,7 @@ abbrev mutual
 
   pub part_view : DraftPart → typed.Node
   part_view (empty_part at) = empty_view at
-  part_view (phrase_part q p f k g s) = at_view p f g s (kind_view k)
+  part_view (phrase_part q p f k g) = at_view p f g (kind_view k)
 
   pub lists_view : {m : _} → Row_of-DraftList m → typed.Lists
   lists_view end_of-DraftList = typed.no_lists
@@ -91,7 +133,7 @@ abbrev mutual
 
   pub listing_view : Place → DraftListKind → typed.Listing
   listing_view at (Actuals' slice shape actuals) = typed.OfActuals at (actuals_view actuals)
-  listing_view at (Part' q p f k g s n) = typed.OfPart at (at_view p f g s (kind_view k)) n
+  listing_view at (Part' q p f k g n) = typed.OfPart at (at_view p f g (kind_view k)) n
 
   pub actuals_view : {m : _} → Row_of-DraftActual m → typed.Actuals
   actuals_view end_of-DraftActual = typed.no_actuals
@@ -99,11 +141,11 @@ abbrev mutual
 
   pub actual_view : DraftActual → typed.Actual
   actual_view (Star q) = typed.Star q
-  actual_view (Phrase' q p f k g s) = typed.Given (at_view p f g s (kind_view k))
+  actual_view (Phrase' q p f k g) = typed.Given (at_view p f g (kind_view k))
 
-  pub perhaps_view : Held-DraftKind-IfThen-2 → typed.Perhaps
+  pub perhaps_view : Held-DraftForStep-step → typed.Perhaps
   perhaps_view None' = typed.Missing
-  perhaps_view (Some' q p f k g s) = typed.There (at_view p f g s (kind_view k))
+  perhaps_view (Some' q p f k g) = typed.There (at_view p f g (kind_view k))
 
   pub items_view : {m : _} → Row_of-DraftItem m → typed.Items
   items_view end_of-DraftItem = typed.no_items
@@ -111,11 +153,11 @@ abbrev mutual
 
   pub item_view : DraftItem → typed.Item
   item_view (empty_item at) = typed.Labelled std.[] (empty_view at)
-  item_view (Plain' q p f k g s) = typed.Labelled std.[] (at_view p f g s (kind_view k))
+  item_view (Plain' q p f k g) = typed.Labelled std.[] (at_view p f g (kind_view k))
   item_view (Labelled' q labelled) = labelled_view labelled
 
   pub labelled_view : DraftLabelled → typed.Item
-  labelled_view (DraftLabelled' labels q p f k g s) = typed.Labelled (placed_view labels.now) (at_view p f g s (kind_view k))
+  labelled_view (DraftLabelled' labels q p f k g) = typed.Labelled (placed_view labels.now) (at_view p f g (kind_view k))
 
   pub decls_view : {m : _} → Row_of-DraftDecl m → typed.Decls
   decls_view end_of-DraftDecl = typed.no_decls
@@ -128,11 +170,11 @@ abbrev mutual
   decl_view (Class c) = class_view c
 
   pub procedure_view : DraftProc → typed.Decl
-  procedure_view (DraftProc' place result name formals q p f k g s) = typed.Proc place (option_map value_type result) (place_view name) (map formal_view formals.now) (at_view p f g s (kind_view k))
+  procedure_view (DraftProc' place result name formals q p f k g) = typed.Proc place (option_map value_type result) (place_view name) (map formal_view formals.now) (at_view p f g (kind_view k))
 
   pub bounds_view : {m : _} → Row_of-DraftBound m → typed.Bounds
   bounds_view end_of-DraftBound = typed.no_bounds
-  bounds_view (more_of-DraftBound q p f k g s p2 f2 k2 g2 s2 rest) = typed.bound_and (typed.Between q (at_view p f g s (kind_view k)) (at_view p2 f2 g2 s2 (kind_view k2))) (bounds_view rest)
+  bounds_view (more_of-DraftBound q p f k g p2 f2 k2 g2 rest) = typed.bound_and (typed.Between q (at_view p f g (kind_view k)) (at_view p2 f2 g2 (kind_view k2))) (bounds_view rest)
 
 abbrev pub draft_view : Draft → typed.Node
-draft_view n = at_view n.place n.first n.gives n.statement (kind_view n.kind)
+draft_view n = at_view n.place n.first n.gives (kind_view n.kind)

@@ -1,5 +1,5 @@
-use algolw_tree::{Literal, Mode, Op, RelOp};
-use typing_rules::{PhraseType, ValueType};
+use algolw_tree::{Mode, Op, RelOp};
+use typing_rules::{ClassSet, ValueType};
 use value_ops::Place;
 
 /// What is declared, each by the place of its name in its declaration.
@@ -15,10 +15,29 @@ pub struct Draft<'a> {
     pub first: Place,
     /// What it is.
     pub kind: DraftKind<'a>,
-    /// What it gives: nothing where it is an actual that stands for an array or a procedure, or may.
-    pub gives: Option<PhraseType<'a>>,
-    /// The place of its first token, where it is a statement that is counted.
-    pub statement: Option<Place>,
+    /// What it gives.
+    pub gives: DraftGives<'a>,
+}
+
+/// What a phrase gives. There are many drafts, so this is held in few bytes.
+#[derive(Clone, Copy)]
+pub enum DraftGives<'a> {
+    /// No type: it is faulty, or an actual that stands for an array or a procedure, or may.
+    Untyped,
+    /// Nothing: it is a statement, but none that is counted.
+    Statement,
+    /// Nothing: it is a statement, which is counted at its first token.
+    Counted,
+    /// A value of type INTEGER.
+    Integer,
+    /// A value of type LOGICAL.
+    Logical,
+    /// A value of type BITS.
+    Bits,
+    /// A value of type STRING of this length.
+    Str(u32),
+    /// A value of type REFERENCE to these classes.
+    Reference(&'a ClassSet<'a>),
 }
 
 /// What a phrase of a program is, with each name as the place where it is declared.
@@ -36,7 +55,7 @@ pub enum DraftKind<'a> {
     /// Bits that are written out.
     BitsLit(u32),
     /// A string that is written out.
-    Quoted(&'a Literal),
+    Quoted(&'a [u8]),
     /// A name, as the place where it is declared, and the lists in parentheses behind it.
     Named(Place, &'a [DraftList<'a>]),
     /// `~` and its operand.
@@ -46,31 +65,111 @@ pub enum DraftKind<'a> {
     /// A term behind a sign, which is a minus or not.
     Signed(bool, &'a Draft<'a>),
     /// Operands with operators of one level between them, from left to right.
-    Chain(&'a Draft<'a>, &'a [DraftLink<'a>]),
+    Chain(&'a DraftChain<'a>),
     /// A comparison.
     Relation(RelOp, &'a Draft<'a>, &'a Draft<'a>),
     /// Whether a reference is to a record of a class: the place where it is declared, and the one where it is named.
     IsClass(&'a Draft<'a>, Place, Place),
     /// An assignment of the second to the first.
     Assign(&'a Draft<'a>, &'a Draft<'a>),
-    /// `IF`, its condition, what is done where it holds, and otherwise.
-    IfThen(&'a Draft<'a>, &'a Draft<'a>, Option<&'a Draft<'a>>),
+    /// `IF`.
+    IfThen(&'a DraftIfThen<'a>),
     /// `CASE` with the values to choose from.
-    CaseValue(&'a Draft<'a>, &'a [Draft<'a>]),
+    CaseValue(&'a DraftCaseValue<'a>),
     /// `CASE` with the statements to choose from.
-    CaseDo(&'a Draft<'a>, &'a [DraftPart<'a>]),
-    /// `FOR` a control name, as the place where it is declared: the start, the step, the limit, and what is done.
-    ForStep(Place, &'a Draft<'a>, Option<&'a Draft<'a>>, &'a Draft<'a>, &'a Draft<'a>),
-    /// `FOR` a control name, as the place where it is declared: the values, and what is done.
-    ForList(Place, &'a [Draft<'a>], &'a Draft<'a>),
+    CaseDo(&'a DraftCaseDo<'a>),
+    /// `FOR` with a start and a limit.
+    ForStep(&'a DraftForStep<'a>),
+    /// `FOR` with values.
+    ForList(&'a DraftForList<'a>),
     /// `WHILE`, its condition, and what is done.
     WhileDo(&'a Draft<'a>, &'a Draft<'a>),
     /// `GOTO` a label, as the place where it is declared.
     Goto(Place),
     /// `ASSERT` a condition.
     Assert(&'a Draft<'a>),
-    /// A block: its declarations and its items.
-    Block(&'a [DraftDecl<'a>], &'a [DraftItem<'a>]),
+    /// A block.
+    Block(&'a DraftBlock<'a>),
+}
+
+/// Operands with operators of one level between them, from left to right.
+#[cycle(drafts)]
+#[derive(Clone, Copy)]
+pub struct DraftChain<'a> {
+    /// The first operand.
+    pub first: &'a Draft<'a>,
+    /// The operators and the operands behind them.
+    pub links: &'a [DraftLink<'a>],
+}
+
+/// `IF`.
+#[cycle(drafts)]
+#[derive(Clone, Copy)]
+pub struct DraftIfThen<'a> {
+    /// The condition.
+    pub condition: &'a Draft<'a>,
+    /// What is done where it holds.
+    pub then: &'a Draft<'a>,
+    /// What is done otherwise.
+    pub otherwise: Option<&'a Draft<'a>>,
+}
+
+/// `CASE` with the values to choose from.
+#[cycle(drafts)]
+#[derive(Clone, Copy)]
+pub struct DraftCaseValue<'a> {
+    /// What chooses.
+    pub subject: &'a Draft<'a>,
+    /// The values.
+    pub values: &'a [Draft<'a>],
+}
+
+/// `CASE` with the statements to choose from.
+#[cycle(drafts)]
+#[derive(Clone, Copy)]
+pub struct DraftCaseDo<'a> {
+    /// What chooses.
+    pub subject: &'a Draft<'a>,
+    /// The statements.
+    pub parts: &'a [DraftPart<'a>],
+}
+
+/// `FOR` with a start and a limit.
+#[cycle(drafts)]
+#[derive(Clone, Copy)]
+pub struct DraftForStep<'a> {
+    /// The control name, as the place where it is declared.
+    pub control: Place,
+    /// The start.
+    pub start: &'a Draft<'a>,
+    /// The step, where there is one.
+    pub step: Option<&'a Draft<'a>>,
+    /// The limit.
+    pub limit: &'a Draft<'a>,
+    /// What is done.
+    pub body: &'a Draft<'a>,
+}
+
+/// `FOR` with values.
+#[cycle(drafts)]
+#[derive(Clone, Copy)]
+pub struct DraftForList<'a> {
+    /// The control name, as the place where it is declared.
+    pub control: Place,
+    /// The values.
+    pub values: &'a [Draft<'a>],
+    /// What is done.
+    pub body: &'a Draft<'a>,
+}
+
+/// A block.
+#[cycle(drafts)]
+#[derive(Clone, Copy)]
+pub struct DraftBlock<'a> {
+    /// Its declarations.
+    pub decls: &'a [DraftDecl<'a>],
+    /// Its items.
+    pub items: &'a [DraftItem<'a>],
 }
 
 /// An operator of a chain and the operand behind it.

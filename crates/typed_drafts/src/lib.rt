@@ -2,10 +2,13 @@
 #![tactic(auto)]
 
 mod drafts;
+mod gives;
 mod statement_places;
 
 pub use drafts::{
-    Draft, DraftActual, DraftBound, DraftClass, DraftDecl, DraftFormal, DraftItem, DraftKind,
-    DraftLabelled, DraftLink, DraftList, DraftListKind, DraftPart, DraftProc, Places,
+    Draft, DraftActual, DraftBlock, DraftBound, DraftCaseDo, DraftCaseValue, DraftChain,
+    DraftClass, DraftDecl, DraftForList, DraftForStep, DraftFormal, DraftGives, DraftIfThen,
+    DraftItem, DraftKind, DraftLabelled, DraftLink, DraftList, DraftListKind, DraftPart, DraftProc,
+    Places,
 };
 pub use statement_places::statements;

@@ -1,14 +1,14 @@
 ghost use Rattle.std.specs.Prelude.{◌≡◌, ◌++◌, IfOk, OnOk, map};
 ghost use Rattle.algolw_typing.specs.Typed as typed;
 ghost use Rattle.algolw_typing.specs.Programs.{statements, counted_at, kind_statements, nodes_statements, perhaps_statements, links_statements, lists_statements, actuals_statements, items_statements, bounds_statements, decls_statements, decl_statements};
-ghost use Rattle.typed_drafts.specs.DraftView.{draft_view, kind_view, link_view, actual_view, part_view, item_view, decl_view};
+ghost use Rattle.typed_drafts.specs.DraftView.{counted_view, draft_view, kind_view, link_view, actual_view, part_view, item_view, decl_view};
 ghost use Rattle.typed_drafts.specs.DraftParts.{list_view, bound_view};
 ghost use Rattle.typed_drafts.specs.Onto.{nodes_onto, links_onto, lists_onto, actuals_onto, items_onto, bounds_onto, decls_onto};
 ghost use Rattle.typed_drafts.specs.StatementParts.{perhaps_of, listing_statements, actual_statements, item_statements};
 
 use crate::drafts::{
-    Draft, DraftActual, DraftBound, DraftDecl, DraftItem, DraftKind, DraftLink, DraftList,
-    DraftListKind, DraftPart,
+    Draft, DraftActual, DraftBound, DraftDecl, DraftGives, DraftItem, DraftKind, DraftLink,
+    DraftList, DraftListKind, DraftPart,
 };
 use std::alloc::{AllocError, Global};
 use value_ops::Place;
@@ -22,16 +22,16 @@ pub fn statements(alloc: Global, draft: &Draft) -> Result<Vec<Place>, AllocError
     Ok(places)
 }
 
-/// Adds the place of a statement, where there is one.
-fn add_counted(places: &mut Vec<Place>, statement: Option<Place>) -> Result<(), AllocError>
-    ensures { OnOk result (places.new.items ≡ places.old.items ++ counted_at statement) }
+/// Adds the place of the first token of a phrase, where it is a statement that is counted.
+fn add_counted(places: &mut Vec<Place>, first: Place, gives: DraftGives) -> Result<(), AllocError>
+    ensures { OnOk result (places.new.items ≡ places.old.items ++ counted_at (counted_view first gives.entry)) }
 {
-    match statement {
-        Some(place) => {
-            places.push(place)?;
+    match gives {
+        DraftGives::Counted => {
+            places.push(first)?;
             Ok(())
         }
-        None => Ok(()),
+        _ => Ok(()),
     }
 }
 
@@ -40,7 +40,7 @@ fn add_counted(places: &mut Vec<Place>, statement: Option<Place>) -> Result<(), 
 fn add_draft(places: &mut Vec<Place>, draft: &Draft) -> Result<(), AllocError>
     ensures { OnOk result (places.new.items ≡ places.old.items ++ statements (draft_view draft.now)) }
 {
-    add_counted(places, draft.statement)?;
+    add_counted(places, draft.first, draft.gives)?;
     add_kind(places, &draft.kind)?;
     Ok(())
 }
@@ -62,22 +62,31 @@ fn add_kind(places: &mut Vec<Place>, kind: &DraftKind) -> Result<(), AllocError>
         DraftKind::Negated(operand) => add_draft(places, operand),
         DraftKind::Abs(operand) => add_draft(places, operand),
         DraftKind::Signed(_, operand) => add_draft(places, operand),
-        DraftKind::Chain(first, links) => add_chain(places, first, links),
+        DraftKind::Chain(chain) => add_chain(places, chain.first, chain.links),
         DraftKind::Relation(_, left, right) => add_both(places, left, right),
         DraftKind::IsClass(operand, _, _) => add_draft(places, operand),
         DraftKind::Assign(left, right) => add_both(places, left, right),
-        DraftKind::IfThen(condition, then, otherwise) => {
-            add_conditional(places, condition, then, *otherwise)
+        DraftKind::IfThen(conditional) => {
+            add_conditional(
+                places,
+                conditional.condition,
+                conditional.then,
+                conditional.otherwise,
+            )
         }
-        DraftKind::CaseValue(subject, values) => add_case_value(places, subject, values),
-        DraftKind::CaseDo(subject, parts) => add_case_do(places, subject, parts),
-        DraftKind::ForStep(_, start, step, limit, body) => {
-            add_stepped(places, start, *step, limit, body)
-        }
-        DraftKind::ForList(_, values, body) => add_listed(places, values, body),
+        DraftKind::CaseValue(case) => add_case_value(places, case.subject, case.values),
+        DraftKind::CaseDo(case) => add_case_do(places, case.subject, case.parts),
+        DraftKind::ForStep(stepped) => add_stepped(
+            places,
+            stepped.start,
+            stepped.step,
+            stepped.limit,
+            stepped.body,
+        ),
+        DraftKind::ForList(listed) => add_listed(places, listed.values, listed.body),
         DraftKind::WhileDo(condition, body) => add_both(places, condition, body),
         DraftKind::Assert(condition) => add_draft(places, condition),
-        DraftKind::Block(decls, items) => add_block(places, decls, items),
+        DraftKind::Block(block) => add_block(places, block.decls, block.items),
     }
 }
 

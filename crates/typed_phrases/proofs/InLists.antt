@@ -1,21 +1,18 @@
 -- How a phrase in a list is read, by its kind, and what its own list holds.
 use Rattle.std.proofs.Common.{◌≡◌, ℕ, ◌<◌, true, false, List, [], ◌∷◌, length, get_or, map, refl, sym, ap, ◌∙◌, arith}
-use Rattle.std.specs.declared.vec.Vec.{Vec}
-use Rattle.std.specs.declared.alloc.Global.{Global}
 use Rattle.std.specs.Borrow.{Bor}
 use Rattle.value_ops.specs.declared.places.Place.{Place}
 use Rattle.algolw_tree.specs.declared.phrases.List as list
-use Rattle.algolw_tree.specs.declared.phrases.Kind as phrase
-use Rattle.algolw_tree.specs.declared.phrases.Kind.{Kind}
+use Rattle.algolw_tree.specs.declared.phrases.Listed.{Listed, out-Listed}
 use Rattle.algolw_tree.specs.Grammar.{lists_of}
 use Rattle.algolw_tree.specs.Tree as tree
-use Rattle.algolw_tree.specs.View.{kind_tree, list_tree}
+use Rattle.algolw_tree.specs.View.{list_tree, listed_tree}
 use Rattle.algolw_typing.specs.Actuals.{Wanted}
 use Rattle.algolw_typing.specs.Meanings.{Part, a_star}
 use Rattle.algolw_typing.specs.Names.{declared}
 use Rattle.algolw_typing.specs.Scopes.{Scopes}
 use Rattle.algolw_typing.specs.Typed as typed
-use Rattle.algolw_typing.specs.Typing.{Out, given, meaning_of, name_given, list_given, phrase_given, variable_name, part_of_node, parts_of_actuals, parts_of_kind, parts_of_lists}
+use Rattle.algolw_typing.specs.Typing.{Out, given, meaning_of, name_given, list_given, phrase_given, variable_name, left_of, left_name, part_of_node, parts_of_actuals, parts_of_kind, parts_of_lists}
 use Rattle.typed_drafts.specs.declared.drafts.DraftKind.{DraftKind, Named}
 use Rattle.typed_drafts.specs.declared.drafts.DraftList.{DraftList}
 use Rattle.typed_drafts.specs.DraftView.{kind_view}
@@ -23,12 +20,12 @@ use Rattle.typed_drafts.specs.DraftParts.{list_view}
 use Rattle.typed_drafts.specs.Onto.{actuals_onto, lists_onto}
 use Rattle.typed_drafts.proofs.DraftRows.{slice_lists}
 use Rattle.typed_phrases.specs.Fronts.{of_actuals, part_of_actual, parts_of_listing}
-use Rattle.algolw_tree.proofs.Rows.{named_at}
+use Rattle.algolw_tree.proofs.Rows.{listed_is}
 
 -- ---- a name in a list, by the lists behind it
 
-at_named : (path : Scopes) (w : Wanted) (p f : Place) (k : Kind) (x : List ℕ) (v : Vec list.List Global) (o : Out) → k ≡ phrase.Named x v → given path w (tree.At p f (kind_tree k)) o ≡ given path w (tree.At p f (tree.Named x (lists_of (map list_tree v.items)))) o
-at_named path w p f k x v o e = ap (λ (z : tree.Kind). given path w (tree.At p f z) o) (named_at k x v v.items e refl)
+at_listed : (path : Scopes) (w : Wanted) (p f : Place) (l : Listed) (o : Out) → given path w (tree.At p f (listed_tree l)) o ≡ given path w (tree.At p f (tree.Named (out-Listed l).name (lists_of (map list_tree (out-Listed l).lists.items)))) o
+at_listed path w p f l o = ap (λ (z : tree.Kind). given path w (tree.At p f z) o) (listed_is l)
 
 by_name : (path : Scopes) (w : Wanted) (p f : Place) (x : List ℕ) (xs : List list.List) (o : Out) → length xs ≡ 0 → given path w (tree.At p f (tree.Named x (lists_of (map list_tree xs)))) o ≡ name_given w (meaning_of (declared path x)) o
 by_name path w p f x [] o h = refl
@@ -57,16 +54,22 @@ by_more path w p f x (z ∷ []) y o h i a = part_by path w p f x (list_tree z) o
 by_more path w p f x (z ∷ z2 ∷ zs) y o h i a = more_by path w p f x (list_tree z) (list_tree z2) (lists_of (map list_tree zs)) o
 
 -- a name alone
-pub read_name : (path : Scopes) (w : Wanted) (p f : Place) (k : Kind) (x : List ℕ) (v : Vec list.List Global) (o : Out) → k ≡ phrase.Named x v → length v.items ≡ 0 → given path w (tree.At p f (kind_tree k)) o ≡ name_given w (meaning_of (declared path x)) o
-read_name path w p f k x v o e h = at_named path w p f k x v o e ∙ by_name path w p f x v.items o h
+pub read_name : (path : Scopes) (w : Wanted) (p f : Place) (l : Listed) (o : Out) → length (out-Listed l).lists.items ≡ 0 → given path w (tree.At p f (listed_tree l)) o ≡ name_given w (meaning_of (declared path (out-Listed l).name)) o
+read_name path w p f l o h = at_listed path w p f l o ∙ by_name path w p f (out-Listed l).name (out-Listed l).lists.items o h
 
 -- with one list that is no substring list
-pub read_list : (path : Scopes) (w : Wanted) (p f : Place) (k : Kind) (x : List ℕ) (v : Vec list.List Global) (y : list.List) (o : Out) → k ≡ phrase.Named x v → length v.items ≡ 1 → y ≡ get_or v.items 0 y → of_actuals (list_tree y) ≡ true → given path w (tree.At p f (kind_tree k)) o ≡ list_given p w (meaning_of (declared path x)) o
-read_list path w p f k x v y o e h i a = at_named path w p f k x v o e ∙ by_list path w p f x v.items y o h i a
+pub read_list : (path : Scopes) (w : Wanted) (p f : Place) (l : Listed) (y : list.List) (o : Out) → length (out-Listed l).lists.items ≡ 1 → y ≡ get_or (out-Listed l).lists.items 0 y → of_actuals (list_tree y) ≡ true
+    → given path w (tree.At p f (listed_tree l)) o ≡ list_given p w (meaning_of (declared path (out-Listed l).name)) o
+read_list path w p f l y o h i a = at_listed path w p f l o ∙ by_list path w p f (out-Listed l).name (out-Listed l).lists.items y o h i a
 
 -- with a substring list, or with more lists
-pub read_more : (path : Scopes) (w : Wanted) (p f : Place) (k : Kind) (x : List ℕ) (v : Vec list.List Global) (y : list.List) (o : Out) → k ≡ phrase.Named x v → 0 < length v.items → y ≡ get_or v.items 0 y → (length v.items ≡ 1 → of_actuals (list_tree y) ≡ false) → given path w (tree.At p f (kind_tree k)) o ≡ phrase_given (variable_name (meaning_of (declared path x))) o
-read_more path w p f k x v y o e h i a = at_named path w p f k x v o e ∙ by_more path w p f x v.items y o h i a
+pub read_more : (path : Scopes) (w : Wanted) (p f : Place) (l : Listed) (y : list.List) (o : Out) → 0 < length (out-Listed l).lists.items → y ≡ get_or (out-Listed l).lists.items 0 y → (length (out-Listed l).lists.items ≡ 1 → of_actuals (list_tree y) ≡ false)
+    → given path w (tree.At p f (listed_tree l)) o ≡ phrase_given (variable_name (meaning_of (declared path (out-Listed l).name))) o
+read_more path w p f l y o h i a = at_listed path w p f l o ∙ by_more path w p f (out-Listed l).name (out-Listed l).lists.items y o h i a
+
+-- at the left of an assignment
+pub left_listed : (path : Scopes) (p f : Place) (l : Listed) → left_of path (tree.At p f (listed_tree l)) ≡ left_name (meaning_of (declared path (out-Listed l).name))
+left_listed path p f l = ap (λ (z : tree.Kind). left_of path (tree.At p f z)) (listed_is l)
 
 -- ---- what a list holds
 

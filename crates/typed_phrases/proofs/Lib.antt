@@ -1,4 +1,6 @@
 pub mod AllParts
+pub mod Defaults
 pub mod Founds
 pub mod InLists
+pub mod Made
 pub mod Together

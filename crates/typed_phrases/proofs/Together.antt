@@ -3,7 +3,7 @@ use Rattle.std.proofs.Common.{◌≡◌, List, [], ◌∷◌, Option, Some, None
 use Rattle.value_ops.specs.declared.places.Place.{Place}
 use Rattle.algolw_typing.specs.Rows.{case_do_row}
 use Rattle.algolw_typing.specs.Types.{Gives, Statement, Simple}
-use Rattle.algolw_typing.specs.Verdicts.{Verdict, Good, Fault, all_parts, all_statements, int, part}
+use Rattle.algolw_typing.specs.Verdicts.{Verdict, Fault, all_parts, int, part}
 use Rattle.typed_phrases.specs.Cases.{both_give, together}
 
 -- a verdict that rests on nothing but that each has a type

@@ -1,6 +1,7 @@
 ghost use Rattle.std.specs.Prelude.{◌≡◌, ◌∷◌, [], ◌++◌, IfOk, OnOk, map};
 ghost use Rattle.std.specs.Option.{option_map};
-ghost use Rattle.algolw_tree.specs.View.{list_tree, tree};
+ghost use Rattle.algolw_tree.specs.Tree.{At};
+ghost use Rattle.algolw_tree.specs.View.{list_tree, listed_tree, tree};
 ghost use Rattle.algolw_typing.specs.Meanings as meanings;
 ghost use Rattle.algolw_typing.specs.Typed as typed;
 ghost use Rattle.algolw_typing.specs.Typing as rules;
@@ -11,15 +12,14 @@ ghost use Rattle.typed_phrases.specs.Found.{found_view};
 ghost use Rattle.typed_drafts.specs.DraftParts.{list_view};
 ghost use Rattle.typed_phrases.specs.Fronts.{of_actuals, part_of_actual, parts_of_listing};
 ghost use Rattle.typed_phrases.specs.FrontViews.{given_out};
-ghost use Rattle.declared_names.specs.KnownPaths.{path_view};
 
 use crate::making::{Typed, given};
-use algolw_tree::{Kind, List, ListKind, Phrase};
+use algolw_tree::{Kind, List, ListKind, Listed, Phrase};
 use bumpalo::Bump;
 use bumpalo::collections::into_bump_slice;
 use declared_names::{KnownPath, meaning_of};
-use std::alloc::AllocError;
-use typed_drafts::{Draft, DraftActual, DraftKind, DraftList, DraftListKind};
+use std::alloc::{AllocError, Global};
+use typed_drafts::{Draft, DraftActual, DraftGives, DraftKind, DraftList, DraftListKind};
 use typing_rules::{
     Meaning, NoType, Part, ValueType, Verdict, Wanted, phrase_part, subarray_part, subarray_row,
 };
@@ -39,8 +39,8 @@ pub struct Given<'a> {
 /// What is found of the parts of a list.
 #[derive(Drop)]
 pub struct Parts<'a> {
-    /// What each is read as.
-    pub parts: Vec<Part<'a>, &'a Bump>,
+    /// What each is read as. It is wanted no more when the list is judged, so it isn't in the arena.
+    pub parts: Vec<Part<'a>>,
     /// The parts.
     pub drafts: Vec<DraftActual<'a>, &'a Bump>,
 }
@@ -50,8 +50,7 @@ fn untyped<'a>(arena: &'a Bump, draft: &Draft<'a>) -> Result<&'a Draft<'a>, Allo
     ensures { IfOk result (λ d. draft_view d.now ≡ typed.untyped (draft_view draft.now)) }
 {
     let draft = arena.try_alloc(Draft {
-        gives: None,
-        statement: None,
+        gives: DraftGives::Untyped,
         ..*draft
     })?;
     Ok(draft)
@@ -108,7 +107,7 @@ fn part_of<'a>(actual: &DraftActual<'a>) -> Part<'a>
 {
     match actual {
         DraftActual::Star(_) => Part::Star,
-        DraftActual::Phrase(draft) => phrase_part(false, draft.gives),
+        DraftActual::Phrase(draft) => phrase_part(false, draft.gives.phrase_type()),
     }
 }
 
@@ -213,38 +212,61 @@ fn is_of_actuals(list: &List) -> bool
     matches!(list.kind, ListKind::Actuals(_))
 }
 
-/// A phrase in a list, as what is wanted there.
-pub fn read<'a>(
+/// A name and the lists behind it in a list, as what is wanted there.
+fn listed_given<'a>(
     arena: &'a Bump,
-    path: &KnownPath<'_, 'a>,
+    path: &KnownPath<'_, '_, 'a>,
+    place: Place,
     wanted: Wanted<'a>,
-    phrase: &Phrase,
+    listed: &Listed,
     found: Typed<'a>,
 ) -> Result<Given<'a>, AllocError>
-    ensures { IfOk result (λ g. given_out g ≡ rules.given (path_view path.now)
-        (view.wanted wanted.entry) (tree phrase.now) (found_view found.entry)) }
+    ensures { (first : Place) → IfOk result (λ g. given_out g ≡ rules.given path.now
+        (view.wanted wanted.entry) (At place first (listed_tree listed.now)) (found_view found.entry)) }
 {
-    let Kind::Named(name, lists) = &phrase.kind else {
-        return Ok(phrase_given(false, found));
-    };
-    let means = meaning_of(path.declared(name.get()));
-    match lists.first() {
+    let means = meaning_of(path.declared(&listed.name));
+    match listed.lists.first() {
         None => name_given(arena, wanted, means, found),
-        Some(list) if lists.len() == 1 && is_of_actuals(list) => {
-            list_given(arena, phrase.place, wanted, means, found)
+        Some(list) if listed.lists.len() == 1 && is_of_actuals(list) => {
+            list_given(arena, place, wanted, means, found)
         }
         Some(_) => Ok(phrase_given(is_variable(means), found)),
     }
 }
 
+/// A phrase in a list, as what is wanted there.
+pub fn read<'a>(
+    arena: &'a Bump,
+    path: &KnownPath<'_, '_, 'a>,
+    wanted: Wanted<'a>,
+    phrase: &Phrase,
+    found: Typed<'a>,
+) -> Result<Given<'a>, AllocError>
+    ensures { IfOk result (λ g. given_out g ≡ rules.given path.now
+        (view.wanted wanted.entry) (tree phrase.now) (found_view found.entry)) }
+{
+    match &phrase.kind {
+        Kind::Named(name) => {
+            let means = meaning_of(path.declared(name));
+            name_given(arena, wanted, means, found)
+        }
+        Kind::Listed(listed) => listed_given(arena, path, phrase.place, wanted, listed, found),
+        _ => Ok(phrase_given(false, found)),
+    }
+}
+
 impl<'a> Parts<'a> {
     /// No parts, with room for so many.
-    pub fn with_capacity(arena: &'a Bump, count: usize) -> Result<Parts<'a>, AllocError>
+    pub fn with_capacity(
+        alloc: Global,
+        arena: &'a Bump,
+        count: usize,
+    ) -> Result<Parts<'a>, AllocError>
         ensures parts { IfOk result (λ found. found.parts.items ≡ []) }
         ensures drafts { IfOk result (λ found. found.drafts.items ≡ []) }
     {
         Ok(Parts {
-            parts: Vec::with_capacity(arena, count)?,
+            parts: Vec::with_capacity(alloc, count)?,
             drafts: Vec::with_capacity(arena, count)?,
         })
     }

@@ -9,7 +9,6 @@ ghost use Rattle.typing_rules.specs.MeaningView as meaning_view;
 ghost use Rattle.typed_drafts.specs.DraftView.{draft_view};
 ghost use Rattle.typed_phrases.specs.Found.{Finds, found_view};
 ghost use Rattle.typed_phrases.specs.FoundParts.{given_view};
-ghost use Rattle.declared_names.specs.KnownPaths.{path_view};
 
 use crate::making::{Spot, Typed, made};
 use algolw_tree::{Kind, Phrase};
@@ -33,10 +32,11 @@ fn left_name(means: Option<Meaning<'_>>) -> Left
 
 /// What stands at the left of an assignment.
 pub fn left_of(path: &KnownPath, phrase: &Phrase) -> Left
-    ensures { left_view result ≡ rules.left_of (path_view path.now) (tree phrase.now) }
+    ensures { left_view result ≡ rules.left_of path.now (tree phrase.now) }
 {
     match &phrase.kind {
-        Kind::Named(name, _) => left_name(meaning_of(path.declared(name.get()))),
+        Kind::Named(name) => left_name(meaning_of(path.declared(name))),
+        Kind::Listed(listed) => left_name(meaning_of(path.declared(&listed.name))),
         _ => Left::NoVariable,
     }
 }
@@ -47,7 +47,7 @@ fn right_end<'a>(draft: &Draft<'a>) -> Option<PhraseType<'a>>
 {
     match &draft.kind {
         DraftKind::Assign(_, right) => right_end(right),
-        _ => draft.gives,
+        _ => draft.gives.phrase_type(),
     }
 }
 
@@ -59,7 +59,7 @@ fn uncounted<'a>(arena: &'a Bump, draft: &'a Draft<'a>) -> Result<&'a Draft<'a>,
         return Ok(draft);
     };
     let draft = arena.try_alloc(Draft {
-        statement: None,
+        gives: draft.gives.uncounted(),
         ..*draft
     })?;
     Ok(draft)

@@ -13,7 +13,7 @@ use crate::making::{Spot, Typed, given, made};
 use bumpalo::Bump;
 use bumpalo::collections::into_bump_slice;
 use std::alloc::AllocError;
-use typed_drafts::{DraftKind, DraftPart};
+use typed_drafts::{DraftCaseDo, DraftKind, DraftPart};
 use typing_rules::{NoType, PhraseType, Verdict, case_do_row};
 use value_ops::Place;
 
@@ -83,7 +83,6 @@ fn case_do_verdict<'a>(
 }
 
 /// A CASE between statements.
-#[tactic(auto, using(typed_drafts::proofs::DraftRows::slice_parts))]
 pub fn case_do<'a>(
     spot: Spot<'a>,
     subject: Typed<'a>,
@@ -94,6 +93,9 @@ pub fn case_do<'a>(
         (found_view subject.entry) all)) }
 {
     let verdict = case_do_verdict(spot.place, subject.verdict, cases.gives);
-    let parts = into_bump_slice(cases.drafts);
-    made(spot, verdict, DraftKind::CaseDo(subject.draft, parts))
+    let case = spot.arena.try_alloc(DraftCaseDo {
+        subject: subject.draft,
+        parts: into_bump_slice(cases.drafts),
+    })?;
+    made(spot, verdict, DraftKind::CaseDo(case))
 }

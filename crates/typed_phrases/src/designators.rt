@@ -1,5 +1,6 @@
 ghost use Rattle.std.specs.Prelude.{◌≡◌, ℕ, Some, List, ◌∷◌, [], ◌++◌, IfOk, OnOk, map};
 ghost use Rattle.std.specs.Option.{option_map};
+ghost use Rattle.algolw_typing.specs.Names.{declared};
 ghost use Rattle.algolw_typing.specs.Typed as typed;
 ghost use Rattle.algolw_typing.specs.Typing as rules;
 ghost use Rattle.algolw_typing.specs.Verdicts as verdicts;
@@ -14,9 +15,10 @@ ghost use Rattle.declared_names.specs.KnownView.{entry_of};
 
 use crate::actuals::Parts;
 use crate::making::{Spot, Typed, given, made};
+use algolw_tree::Spelling;
 use bumpalo::Bump;
 use bumpalo::collections::into_bump_slice;
-use declared_names::{Known, place_of};
+use declared_names::{Known, KnownPath, place_of};
 use std::alloc::AllocError;
 use typed_drafts::{DraftKind, DraftList, DraftListKind};
 use typing_rules::{
@@ -183,9 +185,9 @@ impl<'a> Lists<'a> {
             ≡ map list_view self.old.drafts.items
             ++ typed.OfActuals place (parts_view found.entry).actuals ∷ []) }
     {
-        let actuals = into_bump_slice(found.drafts);
-        let parts = into_bump_slice(found.parts);
-        let verdict = self.front.with_list(arena, place, parts)?;
+        let Parts { parts, drafts } = found;
+        let actuals = into_bump_slice(drafts);
+        let verdict = self.front.with_list(arena, place, &parts)?;
         self.front = Front::Complete(verdict);
         let kind = DraftListKind::Actuals(actuals);
         self.drafts.push(DraftList { place, kind })?;
@@ -212,6 +214,21 @@ impl<'a> Lists<'a> {
         self.drafts.push(DraftList { place, kind })?;
         Ok(())
     }
+}
+
+/// A name without lists behind it.
+pub fn name_alone<'a>(
+    spot: Spot<'a>,
+    path: &KnownPath<'_, '_, 'a>,
+    name: &Spelling,
+) -> Result<Typed<'a>, AllocError>
+    ensures { IfOk result (λ t. let e = declared path.now name.now in
+        Finds t (rules.named_out spot.entry.place spot.entry.first e
+        (rules.listed (rules.use_alone spot.entry.place e)))) }
+{
+    let target = path.declared(name);
+    let verdict = Front::Name(spot.place, target).alone(spot.arena)?;
+    made(spot, verdict, DraftKind::Named(place_of(target), &[]))
 }
 
 /// A name with the lists behind it.

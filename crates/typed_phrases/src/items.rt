@@ -15,7 +15,7 @@ use bumpalo::Bump;
 use bumpalo::collections::into_bump_slice;
 use declared_names::places;
 use std::alloc::AllocError;
-use typed_drafts::{Draft, DraftDecl, DraftItem, DraftKind, DraftLabelled};
+use typed_drafts::{Draft, DraftBlock, DraftDecl, DraftItem, DraftKind, DraftLabelled};
 use typing_rules::{NoType, PhraseType, Verdict, item_row};
 use value_ops::Place;
 
@@ -111,6 +111,9 @@ pub fn block<'a>(
     ensures { IfOk result (λ t. Finds t (rules.block_out spot.entry.place spot.entry.first []
         (block_decls decls.now) (items_view items.entry))) }
 {
-    let kind = DraftKind::Block(decls, into_bump_slice(items.drafts));
-    made(spot, items.verdict, kind)
+    let block = spot.arena.try_alloc(DraftBlock {
+        decls,
+        items: into_bump_slice(items.drafts),
+    })?;
+    made(spot, items.verdict, DraftKind::Block(block))
 }

@@ -5,15 +5,15 @@ ghost use Rattle.algolw_typing.specs.Types as types;
 ghost use Rattle.algolw_typing.specs.Rows.{integer_row, link_row, negated_row, relation_row};
 ghost use Rattle.algolw_typing.specs.Verdicts.{part, two_parts, type_of};
 ghost use Rattle.typing_rules.specs.View as view;
-ghost use Rattle.typed_drafts.specs.DraftView.{draft_view, kind_view, link_view};
+ghost use Rattle.typed_drafts.specs.DraftView.{counted_view, draft_view, gives_view, kind_view, link_view};
 ghost use Rattle.typed_phrases.specs.FoundParts.{given_view, links_view};
 ghost use Rattle.typed_phrases.specs.Found.{Finds, found_view};
 
-use algolw_tree::{Literal, Op, RelOp};
+use algolw_tree::{Op, RelOp};
 use bumpalo::Bump;
 use bumpalo::collections::into_bump_slice;
 use std::alloc::{AllocError, Global};
-use typed_drafts::{Draft, DraftKind, DraftLink};
+use typed_drafts::{Draft, DraftChain, DraftGives, DraftKind, DraftLink};
 use typing_rules::{
     NoType, PhraseType, ValueType, Verdict, integer_row, link_row, negated_row, relation_row,
 };
@@ -64,13 +64,16 @@ pub(crate) fn given(verdict: Verdict<'_>) -> Option<PhraseType<'_>>
     verdict.ok()
 }
 
-/// Where a phrase with this verdict, whose first token is at a place, is counted: a statement is, at its first token.
-fn counted(first: Place, verdict: Verdict<'_>) -> Option<Place>
-    ensures { result ≡ rules.counted first (view.verdict verdict.entry) }
+/// What a draft with this verdict gives. A statement is counted.
+fn draft_gives<'a>(arena: &'a Bump, verdict: Verdict<'a>) -> Result<DraftGives<'a>, AllocError>
+    ensures gives { IfOk result (λ g. gives_view g ≡ type_of (view.verdict verdict.entry)) }
+    ensures counted { (first : Place) → IfOk result (λ g. counted_view first g
+        ≡ rules.counted first (view.verdict verdict.entry)) }
 {
     match verdict {
-        Ok(PhraseType::Statement) => Some(first),
-        _ => None,
+        Ok(PhraseType::Statement) => Ok(DraftGives::Counted),
+        Ok(PhraseType::Value(of)) => DraftGives::value(arena, of),
+        Err(_) => Ok(DraftGives::Untyped),
     }
 }
 
@@ -83,12 +86,12 @@ pub(crate) fn made<'a>(
     ensures { IfOk result (λ t. Finds t (rules.out [] spot.entry.place spot.entry.first
         (view.verdict verdict.entry) (kind_view kind.entry))) }
 {
+    let gives = draft_gives(spot.arena, verdict)?;
     let draft = spot.arena.try_alloc(Draft {
         place: spot.place,
         first: spot.first,
         kind,
-        gives: given(verdict),
-        statement: counted(spot.first, verdict),
+        gives,
     })?;
     Ok(Typed { verdict, draft })
 }
@@ -101,8 +104,7 @@ pub fn empty(spot: Spot<'_>) -> Result<Typed<'_>, AllocError>
         place: spot.place,
         first: spot.first,
         kind: DraftKind::Empty,
-        gives: Some(PhraseType::Statement),
-        statement: None,
+        gives: DraftGives::Statement,
     })?;
     Ok(Typed {
         verdict: Ok(PhraseType::Statement),
@@ -123,12 +125,14 @@ pub fn leaf<'a>(
 }
 
 /// A string that is written out.
-pub fn quoted<'a>(spot: Spot<'a>, text: Literal) -> Result<Typed<'a>, AllocError>
+pub fn quoted<'a>(spot: Spot<'a>, text: &[u8]) -> Result<Typed<'a>, AllocError>
     ensures { IfOk result (λ t. Finds t (rules.leaf spot.entry.place spot.entry.first
-        (types.Str (length text)) (typed.Quoted text))) }
+        (types.Str (length text.now)) (typed.Quoted text.now))) }
 {
-    let length = text.len() as u32;
-    let text = spot.arena.try_alloc(text)?;
+    let Ok(length) = u32::try_from(text.len()) else {
+        return Err(AllocError);
+    };
+    let text = spot.arena.try_alloc_slice_copy(text)?;
     leaf(spot, ValueType::Str(length), DraftKind::Quoted(text))
 }
 
@@ -240,7 +244,6 @@ fn linked<'a>(op: Op, place: Place, front: Verdict<'a>, right: Verdict<'a>) -> V
 }
 
 /// A chain.
-#[tactic(auto, using(typed_drafts::proofs::DraftRows::slice_links))]
 pub fn chained<'a>(
     spot: Spot<'a>,
     first: Typed<'a>,
@@ -249,8 +252,11 @@ pub fn chained<'a>(
     ensures { IfOk result (λ t. Finds t (rules.chain_out spot.entry.place spot.entry.first
         (found_view first.entry) (links_view links.entry))) }
 {
-    let kind = DraftKind::Chain(first.draft, into_bump_slice(links.drafts));
-    made(spot, links.verdict, kind)
+    let chain = spot.arena.try_alloc(DraftChain {
+        first: first.draft,
+        links: into_bump_slice(links.drafts),
+    })?;
+    made(spot, links.verdict, DraftKind::Chain(chain))
 }
 
 impl<'a> Phrases<'a> {

@@ -12,20 +12,20 @@ ghost use Rattle.typed_phrases.specs.Found.{Finds, found_view};
 ghost use Rattle.typed_drafts.specs.StatementParts.{perhaps_of};
 ghost use Rattle.typed_phrases.specs.FoundParts.{by_all, given_view, phrases_view};
 ghost use Rattle.typed_phrases.specs.Ranges.{for_range_out, range_given, step_given, step_node};
-ghost use Rattle.declared_names.specs.KnownPaths.{path_view};
 ghost use Rattle.declared_names.specs.KnownView.{entry_of};
 
 use crate::making::{Phrases, Spot, Typed, given, made};
+use algolw_tree::Spelling;
 use bumpalo::Bump;
 use bumpalo::collections::into_bump_slice;
-use declared_names::{Known, KnownPath, KnownScope, place_of};
+use declared_names::{Facts, Known, KnownPath, KnownScope, place_of};
 use std::alloc::{AllocError, Global};
-use typed_drafts::{Draft, DraftKind};
+use typed_drafts::{Draft, DraftCaseValue, DraftForList, DraftForStep, DraftIfThen, DraftKind};
 use typing_rules::{
-    Meaning, NoType, PhraseType, Reading, Verdict, assert_row, case_value_row, for_row,
-    if_else_row, if_row, is_row, while_row,
+    Meaning, NoType, PhraseType, Verdict, assert_row, case_value_row, for_row, if_else_row, if_row,
+    is_row, while_row,
 };
-use value_ops::{Diagnostic, Name, Place};
+use value_ops::{Diagnostic, Place};
 
 /// What all parts give, where each has a type, in the arena.
 fn all_given<'a>(
@@ -104,6 +104,7 @@ fn if_verdict<'a>(place: Place, condition: Verdict<'a>, then: Verdict<'a>) -> Ve
 }
 
 /// An IF without ELSE.
+#[tactic(auto, using(typed_drafts::proofs::KindRows::if_of))]
 pub fn if_then<'a>(
     spot: Spot<'a>,
     condition: Typed<'a>,
@@ -113,11 +114,12 @@ pub fn if_then<'a>(
         (found_view condition.entry) (found_view then.entry))) }
 {
     let verdict = if_verdict(spot.place, condition.verdict, then.verdict);
-    made(
-        spot,
-        verdict,
-        DraftKind::IfThen(condition.draft, then.draft, None),
-    )
+    let conditional = spot.arena.try_alloc(DraftIfThen {
+        condition: condition.draft,
+        then: then.draft,
+        otherwise: None,
+    })?;
+    made(spot, verdict, DraftKind::IfThen(conditional))
 }
 
 /// The verdict of an IF with ELSE, by those of its parts.
@@ -140,6 +142,7 @@ fn if_else_verdict<'a>(
 }
 
 /// An IF with ELSE.
+#[tactic(auto, using(typed_drafts::proofs::KindRows::if_of))]
 pub fn if_else<'a>(
     spot: Spot<'a>,
     condition: Typed<'a>,
@@ -150,8 +153,12 @@ pub fn if_else<'a>(
         (found_view condition.entry) (found_view then.entry) (found_view otherwise.entry))) }
 {
     let verdict = if_else_verdict(spot, condition.verdict, then.verdict, otherwise.verdict)?;
-    let kind = DraftKind::IfThen(condition.draft, then.draft, Some(otherwise.draft));
-    made(spot, verdict, kind)
+    let conditional = spot.arena.try_alloc(DraftIfThen {
+        condition: condition.draft,
+        then: then.draft,
+        otherwise: Some(otherwise.draft),
+    })?;
+    made(spot, verdict, DraftKind::IfThen(conditional))
 }
 
 /// The verdict of a CASE between values.
@@ -173,7 +180,6 @@ fn case_value_verdict<'a>(
 }
 
 /// A CASE between values.
-#[tactic(auto, using(typed_drafts::proofs::DraftRows::slice_nodes))]
 pub fn case_value<'a>(
     spot: Spot<'a>,
     subject: Typed<'a>,
@@ -185,7 +191,11 @@ pub fn case_value<'a>(
     let gives = into_bump_slice(values.gives);
     let values = into_bump_slice(values.drafts);
     let verdict = case_value_verdict(spot, subject.verdict, gives)?;
-    made(spot, verdict, DraftKind::CaseValue(subject.draft, values))
+    let case = spot.arena.try_alloc(DraftCaseValue {
+        subject: subject.draft,
+        values,
+    })?;
+    made(spot, verdict, DraftKind::CaseValue(case))
 }
 
 /// The verdict of a FOR, by its parts before the body.
@@ -255,6 +265,7 @@ fn step_draft<'a>(step: Option<Typed<'a>>) -> Option<&'a Draft<'a>>
 }
 
 /// A FOR over a range.
+#[tactic(auto, using(typed_drafts::proofs::KindRows::for_step_of))]
 pub fn for_range<'a>(
     spot: Spot<'a>,
     range: Range<'a>,
@@ -265,17 +276,17 @@ pub fn for_range<'a>(
 {
     let gives = range_gives(spot.arena, range)?;
     let verdict = for_verdict(spot, gives, body.verdict)?;
-    let (start, limit) = (range.start.draft, range.limit.draft);
-    let step = step_draft(range.step);
-    made(
-        spot,
-        verdict,
-        DraftKind::ForStep(spot.place, start, step, limit, body.draft),
-    )
+    let stepped = spot.arena.try_alloc(DraftForStep {
+        control: spot.place,
+        start: range.start.draft,
+        step: step_draft(range.step),
+        limit: range.limit.draft,
+        body: body.draft,
+    })?;
+    made(spot, verdict, DraftKind::ForStep(stepped))
 }
 
 /// A FOR with a list of values.
-#[tactic(auto, using(typed_drafts::proofs::DraftRows::slice_nodes))]
 pub fn for_list<'a>(
     spot: Spot<'a>,
     values: Phrases<'a>,
@@ -287,11 +298,12 @@ pub fn for_list<'a>(
     let gives = into_bump_slice(values.gives);
     let values = into_bump_slice(values.drafts);
     let verdict = for_verdict(spot, gives, body.verdict)?;
-    made(
-        spot,
-        verdict,
-        DraftKind::ForList(spot.place, values, body.draft),
-    )
+    let listed = spot.arena.try_alloc(DraftForList {
+        control: spot.place,
+        values,
+        body: body.draft,
+    })?;
+    made(spot, verdict, DraftKind::ForList(listed))
 }
 
 /// The verdict of a GOTO to a name, by its declaration, at a place.
@@ -317,11 +329,11 @@ fn goto_row<'a>(place: Place, target: Option<Known<'a>>) -> Verdict<'a>
 /// A GOTO to a name.
 pub fn jump<'a>(
     spot: Spot<'a>,
-    path: &KnownPath<'_, 'a>,
-    name: &Name,
+    path: &KnownPath<'_, '_, 'a>,
+    name: &Spelling,
 ) -> Result<Typed<'a>, AllocError>
     ensures { IfOk result (λ t. Finds t (rules.goto_out spot.entry.place spot.entry.first
-        (declared (path_view path.now) name.now))) }
+        (declared path.now name.now))) }
 {
     let target = path.declared(name);
     let kind = DraftKind::Goto(place_of(target));
@@ -340,38 +352,31 @@ fn is_verdict<'a>(place: Place, class: Option<Known<'a>>, operand: Verdict<'a>) 
     }
 }
 
-/// Whether a reference is to a record of a class, that is named at a place.
+/// Whether a reference is to a record of the class with this name, which stands at a place.
 pub fn is_class<'a>(
     spot: Spot<'a>,
-    path: &KnownPath<'_, 'a>,
+    path: &KnownPath<'_, '_, 'a>,
     operand: Typed<'a>,
-    name: &Name,
-    place: Place,
+    class: &(Spelling, Place),
 ) -> Result<Typed<'a>, AllocError>
     ensures { IfOk result (λ t. Finds t (rules.is_out spot.entry.place spot.entry.first
-        (name.now, place) (declared (path_view path.now) name.now) (found_view operand.entry))) }
+        class.now (declared path.now class.now.0) (found_view operand.entry))) }
 {
-    let class = path.declared(name);
-    let verdict = is_verdict(spot.place, class, operand.verdict);
-    let kind = DraftKind::IsClass(operand.draft, place_of(class), place);
+    let known = path.declared(&class.0);
+    let verdict = is_verdict(spot.place, known, operand.verdict);
+    let kind = DraftKind::IsClass(operand.draft, place_of(known), class.1);
     made(spot, verdict, kind)
 }
 
-/// What a FOR declares round its body.
-pub fn control_scope<'a>(
+/// What a FOR at a place declares round its body.
+pub fn control_scope<'t, 'a>(
     alloc: Global,
+    name: &'t Spelling,
     place: Place,
-    name: Name,
-) -> Result<KnownScope<'a>, AllocError>
-    ensures { IfOk result (λ s. s ≡ scopes.control_scope place name) }
+) -> Result<KnownScope<'t, 'a>, AllocError>
+    ensures { IfOk result (λ s. s ≡ scopes.control_scope place name.now) }
 {
     let mut scope = KnownScope::new(alloc);
-    let known = Known {
-        place,
-        is_class: false,
-        reading: Reading::AsPhrases,
-        means: Some(Meaning::Control),
-    };
-    scope.declare(name, known)?;
+    scope.declare(name, place, Facts::Control)?;
     Ok(scope)
 }

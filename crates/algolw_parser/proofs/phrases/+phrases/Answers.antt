@@ -1,6 +1,7 @@
 use Rattle.std.proofs.Common.{◌≡◌, ap, subst, sym, ◌∙◌, map}
 use Rattle.std.specs.Prelude.{None}
 use Rattle.algolw_tree.specs.declared.tokens.Symbol.TheVariants.{Comma, Semicolon, Open}
+use Rattle.algolw_tree.specs.declared.phrases.Phrase.{Phrase}
 use Rattle.algolw_tree.specs.Grammar.{left, right, link_of}
 use Rattle.algolw_tree.specs.View.{tree, link_tree, list_tree, actual_tree, bound_tree, part_tree, item_tree, decl_tree}
 use Rattle.algolw_grammar.specs.Kinds.{the_symbol}
@@ -11,6 +12,7 @@ use Rattle.token_reader.specs.Gives.{Fails, boxed_tree}
 use Rattle.token_reader.specs.Levels.{operators, read_operator, read_operand}
 use Rattle.token_reader.proofs.Turns.{turn_kept, turn_fails, both_got, both_fails, mapped_fails, failed, for_fails, values_fail, gathered_none}
 use Rattle.token_reader.proofs.Shrink.{shrinks_phrase, shrinks_part, shrinks_actual, shrinks_bound, shrinks_item, shrinks_decl, shrinks_listing, shrinks_link}
+use Rattle.algolw_parser.proofs.Loops.{body_fails}
 use Rattle.algolw_parser.proofs.phrases.+phrases.Goals as goal
 
 pub later_phrases-turns-smaller : goal.later_phrases-turns-smaller
@@ -73,12 +75,20 @@ decls-returns-in_err-expect_symbol t c =
 pub iteration-returns-in_err-expect_word : goal.iteration-returns-in_err-expect_word
 iteration-returns-in_err-expect_word t c =
     let e : Stop = c.in_err-expect_word.field-0.0 in
-    failed boxed_tree c.from_residual-in_err-expect_word.result c.expect_word-then-at_values.new.self.rest.now e _ c.from_residual-in_err-expect_word.ensures (for_fails (readers c.args.room) e c.args.parser.now.rest.now c.expect_word.new.self.rest.now c.expect_name.new.self.rest.now c.expect_symbol.new.self.rest.now c.unboxed.new.parser.rest.now c.later_phrases.new.parser.rest.now _ _ _ _ _ c.in_ok-place.ensures c.in_ok-name.ensures c.in_ok-expect_symbol.ensures c.in_ok-start.ensures (sym c.at_values.ensures ∙ c.if-at_values.true) c.in_ok-values.ensures c.in_err-expect_word.ensures)
+    let start : (readers c.args.room).phrase c.expect_symbol.new.self.rest.now ≡ Got (tree c.into_inner.result) None c.phrase.new.parser.rest.now = c.in_ok-start.ensures ∙ ap (λ (p : Phrase). Got (tree p) None c.phrase.new.parser.rest.now) (sym c.into_inner.ensures) in
+    failed boxed_tree c.from_residual-in_err-expect_word.result c.expect_word-then-at_values.new.self.rest.now e _ c.from_residual-in_err-expect_word.ensures (for_fails (readers c.args.room) e c.args.parser.now.rest.now c.expect_word.new.self.rest.now c.expect_name.new.self.rest.now c.expect_symbol.new.self.rest.now c.phrase.new.parser.rest.now c.later_phrases.new.parser.rest.now _ _ _ _ _ c.in_ok-place.ensures c.in_ok-name.ensures c.in_ok-expect_symbol.ensures start (sym c.at_values.ensures ∙ c.if-at_values.true) c.in_ok-values.ensures c.in_err-expect_word.ensures)
 
 pub iteration-returns-in_err-values : goal.iteration-returns-in_err-values
 iteration-returns-in_err-values t c =
     let e : Stop = c.in_err-values.field-0.0 in
-    failed boxed_tree c.from_residual-in_err-values.result c.later_phrases.new.parser.rest.now e _ c.from_residual-in_err-values.ensures (values_fail (readers c.args.room) e c.args.parser.now.rest.now c.expect_word.new.self.rest.now c.expect_name.new.self.rest.now c.expect_symbol.new.self.rest.now c.unboxed.new.parser.rest.now _ _ _ _ c.in_ok-place.ensures c.in_ok-name.ensures c.in_ok-expect_symbol.ensures c.in_ok-start.ensures (sym c.at_values.ensures ∙ c.if-at_values.true) c.in_err-values.ensures)
+    let start : (readers c.args.room).phrase c.expect_symbol.new.self.rest.now ≡ Got (tree c.into_inner.result) None c.phrase.new.parser.rest.now = c.in_ok-start.ensures ∙ ap (λ (p : Phrase). Got (tree p) None c.phrase.new.parser.rest.now) (sym c.into_inner.ensures) in
+    failed boxed_tree c.from_residual-in_err-values.result c.later_phrases.new.parser.rest.now e _ c.from_residual-in_err-values.ensures (values_fail (readers c.args.room) e c.args.parser.now.rest.now c.expect_word.new.self.rest.now c.expect_name.new.self.rest.now c.expect_symbol.new.self.rest.now c.phrase.new.parser.rest.now _ _ _ _ c.in_ok-place.ensures c.in_ok-name.ensures c.in_ok-expect_symbol.ensures start (sym c.at_values.ensures ∙ c.if-at_values.true) c.in_err-values.ensures)
+
+pub iteration-returns-in_err-body : goal.iteration-returns-in_err-body
+iteration-returns-in_err-body t c =
+    let e : Stop = c.in_err-body.field-0.0 in
+    let start : (readers c.args.room).phrase c.expect_symbol.new.self.rest.now ≡ Got (tree c.into_inner.result) None c.phrase.new.parser.rest.now = c.in_ok-start.ensures ∙ ap (λ (p : Phrase). Got (tree p) None c.phrase.new.parser.rest.now) (sym c.into_inner.ensures) in
+    failed boxed_tree c.from_residual-in_err-body.result c.perhaps.new.parser.rest.now e _ c.from_residual-in_err-body.ensures (body_fails (readers c.args.room) e c.args.parser.now.rest.now c.expect_word.new.self.rest.now c.expect_name.new.self.rest.now c.expect_symbol.new.self.rest.now c.phrase.new.parser.rest.now c.later_phrases.new.parser.rest.now c.expect_word-then-at_values.new.self.rest.now _ _ _ _ _ _ c.in_ok-place.ensures c.in_ok-name.ensures c.in_ok-expect_symbol.ensures start (sym c.at_values.ensures ∙ c.if-at_values.true) c.in_ok-values.ensures c.in_ok-expect_word.ensures c.in_err-body.ensures)
 
 pub links-turns-smaller : goal.links-turns-smaller
 links-turns-smaller t c = (shrinks_link c.args.room c.args.level).less c.turns.parser.rest.now _ _ c.operand.new.parser.rest.now (ap (mapped link_of) (both_got (read_operator c.args.level) (read_operand c.args.level (readers c.args.room)) c.turns.parser.rest.now c.operator.new.self.rest.now c.operand.new.parser.rest.now _ _ c.in_ok-op.ensures c.in_ok-right.ensures))

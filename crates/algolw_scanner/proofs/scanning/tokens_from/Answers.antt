@@ -16,6 +16,12 @@ pieces-preserved-in-Skipped c = kept_skip c.args.start c.pieces.cursor c.in-Skip
 pub pieces-preserved-in-Skipped-2 : goal.pieces-preserved-in-Skipped-2
 pieces-preserved-in-Skipped-2 c = kept_skip c.args.start c.pieces.cursor c.in-Skipped.next c.pieces.tokens.items c.pieces.after_end c.pieces.invariant (subst (λ n. IsNext c.pieces.cursor c.next_piece.new.kind n) c.in-Skipped.is c.in_ok-piece.ensures)
 
+pub pieces-preserved-in-Skipped-3 : goal.pieces-preserved-in-Skipped-3
+pieces-preserved-in-Skipped-3 c = kept_skip c.args.start c.pieces.cursor c.in-Skipped.next c.pieces.tokens.items c.pieces.after_end c.pieces.invariant (subst (λ n. IsNext c.pieces.cursor c.next_piece.new.kind n) c.in-Skipped.is c.in_ok-piece.ensures)
+
+pub pieces-preserved-in-Skipped-4 : goal.pieces-preserved-in-Skipped-4
+pieces-preserved-in-Skipped-4 c = kept_skip c.args.start c.pieces.cursor c.in-Skipped.next c.pieces.tokens.items c.pieces.after_end c.pieces.invariant (subst (λ n. IsNext c.pieces.cursor c.next_piece.new.kind n) c.in-Skipped.is c.in_ok-piece.ensures)
+
 pub returns-in-Finished : goal.returns-in-Finished
 returns-in-Finished c =
     finish_as c.args.start _ _ c.in_ok-keep-in-Finished.ensures (kept_finish c.args.start c.pieces.cursor c.pieces.tokens.items c.pieces.after_end c.in-Finished.place c.pieces.invariant (subst (λ n. IsNext c.pieces.cursor c.next_piece.new.kind n) c.in-Finished.is c.in_ok-piece.ensures))

@@ -2,11 +2,10 @@ use Rattle.std.proofs.Common.{◌≡◌, ◌++◌, drop, map}
 use Rattle.algolw_tree.specs.View.{spec_tree}
 use Rattle.algolw_typing.specs.Naming.{class_fields}
 use Rattle.block_scopes.specs.ClassView.{field_view}
-use Rattle.name_scopes.specs.Paths.{path_view}
 use Rattle.block_scopes.proofs.classes.class_fields.Given as goal
 
 -- what is added and what is left are all
 abbrev pub invariant-loop-spec : goal.invariant-loop-spec
 invariant-loop-spec l =
-    map field_view l.fields.items ++ class_fields (path_view l.path) (map (λ g. (spec_tree g.0, g.1.items)) (drop l.spec-index l.groups))
-    ≡ class_fields (path_view l.path) (map (λ g. (spec_tree g.0, g.1.items)) l.groups)
+    map field_view l.fields.items ++ class_fields l.path (map (λ g. (spec_tree g.0, g.1.items)) (drop l.spec-index l.groups))
+    ≡ class_fields l.path (map (λ g. (spec_tree g.0, g.1.items)) l.groups)

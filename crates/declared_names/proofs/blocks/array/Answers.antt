@@ -3,13 +3,12 @@ use Rattle.value_ops.specs.declared.places.Diagnostic.{Diagnostic}
 use Rattle.algolw_tree.specs.View.{spec_tree}
 use Rattle.algolw_typing.specs.Scopes.{dimension_fault, spec_faults}
 use Rattle.typed_drafts.proofs.DraftRows.{slice_bounds}
-use Rattle.declared_names.specs.KnownPaths.{path_view}
 use Rattle.declared_names.proofs.blocks.array.Goals as goal
 
 pub returns : goal.returns
 returns c =
     let before = c.args.faults.now.items in
-    let own = spec_faults (path_view c.args.path.now) (spec_tree c.args.spec.now) in
+    let own = spec_faults c.args.path.now (spec_tree c.args.spec.now) in
     let sizes = dimension_fault c.args.names.now.items c.args.dimensions in
     record {
       faults = c.in_ok-extend_from_slice.ensures.items

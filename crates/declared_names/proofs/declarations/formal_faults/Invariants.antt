@@ -1,9 +1,8 @@
 use Rattle.std.proofs.Common.{◌≡◌, ◌++◌, drop, map}
 use Rattle.algolw_tree.specs.View.{formal_tree}
 use Rattle.algolw_typing.specs.Scopes as rules
-use Rattle.declared_names.specs.KnownPaths.{path_view}
 use Rattle.declared_names.proofs.declarations.formal_faults.Given as goal
 
 -- what is found and what is left are all
 abbrev pub invariant-loop-formal : goal.invariant-loop-formal
-invariant-loop-formal l = l.faults.items ++ rules.formal_faults (path_view l.path) (map formal_tree (drop l.formal-index l.formals)) ≡ l.fn.faults.items ++ rules.formal_faults (path_view l.path) (map formal_tree l.formals)
+invariant-loop-formal l = l.faults.items ++ rules.formal_faults l.path (map formal_tree (drop l.formal-index l.formals)) ≡ l.fn.faults.items ++ rules.formal_faults l.path (map formal_tree l.formals)

@@ -1,9 +1,9 @@
-use Rattle.std.proofs.Common.{ap, ◌∙◌}
-use Rattle.algolw_tree.specs.Tree.{CaseValue}
+use Rattle.std.proofs.Common.{◌≡◌, subst, ap}
+use Rattle.std.specs.Prelude.{IfOk}
 use Rattle.algolw_tree.specs.Grammar.{at}
-use Rattle.algolw_tree.specs.View.{tree}
-use Rattle.algolw_tree.proofs.Rows.{vec_phrases}
+use Rattle.token_reader.specs.Gives.{boxed_tree}
+use Rattle.token_reader.proofs.Made.{case_value_made}
 use Rattle.token_reader.proofs.make.case_value.Goals as goal
 
 pub returns : goal.returns
-returns c = c.at.ensures ∙ ap (λ values. at c.args.place (CaseValue (tree c.args.subject.value) values)) (vec_phrases c.args.values)
+returns c = subst (λ t. IfOk c.boxed.result (λ p. boxed_tree p ≡ t)) (ap (at c.args.place) (case_value_made _ _ _ _ c.in_ok-choice.ensures.ok c.into_inner-selector.ensures)) c.boxed.ensures

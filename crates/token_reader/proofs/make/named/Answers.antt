@@ -1,5 +1,9 @@
-use Rattle.algolw_tree.proofs.Rows.{vec_lists}
+use Rattle.std.proofs.Common.{◌≡◌, subst, ap}
+use Rattle.std.specs.Prelude.{IfOk}
+use Rattle.algolw_tree.specs.Grammar.{at}
+use Rattle.token_reader.specs.Gives.{boxed_tree}
+use Rattle.token_reader.proofs.Made.{listed_made}
 use Rattle.token_reader.proofs.make.named.Goals as goal
 
 pub returns : goal.returns
-returns c = cc (c.at.ensures, c.in_ok-spelling.ensures, vec_lists c.args.lists)
+returns c = subst (λ t. IfOk c.boxed-2.result (λ p. boxed_tree p ≡ t)) (ap (at c.args.name.1) (listed_made _ _ _ c.in_ok-listed.ensures.ok)) c.boxed-2.ensures

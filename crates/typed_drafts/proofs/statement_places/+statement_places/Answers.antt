@@ -6,7 +6,7 @@ use Rattle.typed_drafts.specs.Onto.{nodes_onto, links_onto, lists_onto, actuals_
 use Rattle.typed_drafts.proofs.DraftSizes.{size, size_kind, size_nodes, size_parts, size_links, size_link, size_lists, size_listing, size_actuals, size_actual, size_items, size_item, size_bounds, size_decls, size_decl, item_smaller}
 use Rattle.algolw_typing.specs.Programs.{kind_statements, decl_statements}
 use Rattle.typed_drafts.specs.StatementParts.{listing_statements}
-use Rattle.typed_drafts.proofs.KindRows.{link_at, named_at, chain_at, case_value_at, case_do_at, for_list_at, block_at, actuals_at, array_at}
+use Rattle.typed_drafts.proofs.KindRows.{link_at, named_at, chain_at, case_value_at, case_do_at, if_at, for_step_at, for_list_at, block_at, actuals_at, array_at}
 use Rattle.typed_drafts.proofs.StatementArms.{by_part}
 use Rattle.typed_drafts.proofs.statement_places.+statement_places.Goals as goal
 
@@ -57,34 +57,34 @@ pub add_kind-returns-in-Named : goal.add_kind-returns-in-Named
 add_kind-returns-in-Named t c = by_part kind_statements c.add_lists.result c.args.places.now.items c.add_lists.new.places.items _ _ (named_at _ _ c.in-Named.lists c.in-Named.is) c.add_lists.ensures
 
 pub add_kind-add_chain-requires : goal.add_kind-add_chain-requires
-add_kind-add_chain-requires t c = search (rules, ap size_kind (chain_at _ c.in-Chain.first c.in-Chain.links c.in-Chain.is))
+add_kind-add_chain-requires t c = search (rules, ap size_kind (chain_at _ c.in-Chain.chain c.in-Chain.is))
 
 pub add_kind-returns-in-Chain : goal.add_kind-returns-in-Chain
-add_kind-returns-in-Chain t c = by_part kind_statements c.add_chain.result c.args.places.now.items c.add_chain.new.places.items _ _ (chain_at _ c.in-Chain.first c.in-Chain.links c.in-Chain.is) c.add_chain.ensures
+add_kind-returns-in-Chain t c = by_part kind_statements c.add_chain.result c.args.places.now.items c.add_chain.new.places.items _ _ (chain_at _ c.in-Chain.chain c.in-Chain.is) c.add_chain.ensures
 
 pub add_kind-add_case_value-requires : goal.add_kind-add_case_value-requires
-add_kind-add_case_value-requires t c = search (rules, ap size_kind (case_value_at _ c.in-CaseValue.subject c.in-CaseValue.values c.in-CaseValue.is))
+add_kind-add_case_value-requires t c = search (rules, ap size_kind (case_value_at _ c.in-CaseValue.case c.in-CaseValue.is))
 
 pub add_kind-returns-in-CaseValue : goal.add_kind-returns-in-CaseValue
-add_kind-returns-in-CaseValue t c = by_part kind_statements c.add_case_value.result c.args.places.now.items c.add_case_value.new.places.items _ _ (case_value_at _ c.in-CaseValue.subject c.in-CaseValue.values c.in-CaseValue.is) c.add_case_value.ensures
+add_kind-returns-in-CaseValue t c = by_part kind_statements c.add_case_value.result c.args.places.now.items c.add_case_value.new.places.items _ _ (case_value_at _ c.in-CaseValue.case c.in-CaseValue.is) c.add_case_value.ensures
 
 pub add_kind-add_case_do-requires : goal.add_kind-add_case_do-requires
-add_kind-add_case_do-requires t c = search (rules, ap size_kind (case_do_at _ c.in-CaseDo.subject c.in-CaseDo.parts c.in-CaseDo.is))
+add_kind-add_case_do-requires t c = search (rules, ap size_kind (case_do_at _ c.in-CaseDo.case c.in-CaseDo.is))
 
 pub add_kind-returns-in-CaseDo : goal.add_kind-returns-in-CaseDo
-add_kind-returns-in-CaseDo t c = by_part kind_statements c.add_case_do.result c.args.places.now.items c.add_case_do.new.places.items _ _ (case_do_at _ c.in-CaseDo.subject c.in-CaseDo.parts c.in-CaseDo.is) c.add_case_do.ensures
+add_kind-returns-in-CaseDo t c = by_part kind_statements c.add_case_do.result c.args.places.now.items c.add_case_do.new.places.items _ _ (case_do_at _ c.in-CaseDo.case c.in-CaseDo.is) c.add_case_do.ensures
 
 pub add_kind-add_listed-requires : goal.add_kind-add_listed-requires
-add_kind-add_listed-requires t c = search (rules, ap size_kind (for_list_at _ c.in-ForList.field-0 c.in-ForList.values c.in-ForList.body c.in-ForList.is))
+add_kind-add_listed-requires t c = search (rules, ap size_kind (for_list_at _ c.in-ForList.listed c.in-ForList.is))
 
 pub add_kind-returns-in-ForList : goal.add_kind-returns-in-ForList
-add_kind-returns-in-ForList t c = by_part kind_statements c.add_listed.result c.args.places.now.items c.add_listed.new.places.items _ _ (for_list_at _ c.in-ForList.field-0 c.in-ForList.values c.in-ForList.body c.in-ForList.is) c.add_listed.ensures
+add_kind-returns-in-ForList t c = by_part kind_statements c.add_listed.result c.args.places.now.items c.add_listed.new.places.items _ _ (for_list_at _ c.in-ForList.listed c.in-ForList.is) c.add_listed.ensures
 
 pub add_kind-add_block-requires : goal.add_kind-add_block-requires
-add_kind-add_block-requires t c = search (rules, ap size_kind (block_at _ c.in-Block.decls c.in-Block.items c.in-Block.is))
+add_kind-add_block-requires t c = search (rules, ap size_kind (block_at _ c.in-Block.block c.in-Block.is))
 
 pub add_kind-returns-in-Block : goal.add_kind-returns-in-Block
-add_kind-returns-in-Block t c = by_part kind_statements c.add_block.result c.args.places.now.items c.add_block.new.places.items _ _ (block_at _ c.in-Block.decls c.in-Block.items c.in-Block.is) c.add_block.ensures
+add_kind-returns-in-Block t c = by_part kind_statements c.add_block.result c.args.places.now.items c.add_block.new.places.items _ _ (block_at _ c.in-Block.block c.in-Block.is) c.add_block.ensures
 
 pub add_list-add_actuals-requires : goal.add_list-add_actuals-requires
 add_list-add_actuals-requires t c = search (rules, ap size_listing (actuals_at c.args.list.now.place _ c.in-Actuals.actuals c.in-Actuals.is))
@@ -97,3 +97,15 @@ add_decl-add_bounds-requires t c = search (rules, ap size_decl (array_at _ c.in-
 
 pub add_decl-returns-in-Array : goal.add_decl-returns-in-Array
 add_decl-returns-in-Array t c = by_part decl_statements c.add_bounds.result c.args.places.now.items c.add_bounds.new.places.items _ _ (array_at _ c.in-Array.field-0 c.in-Array.field-1 c.in-Array.bounds c.in-Array.is) c.add_bounds.ensures
+
+pub add_kind-add_conditional-requires : goal.add_kind-add_conditional-requires
+add_kind-add_conditional-requires t c = search (rules, ap size_kind (if_at _ c.in-IfThen.conditional c.in-IfThen.is))
+
+pub add_kind-returns-in-IfThen : goal.add_kind-returns-in-IfThen
+add_kind-returns-in-IfThen t c = by_part kind_statements c.add_conditional.result c.args.places.now.items c.add_conditional.new.places.items _ _ (if_at _ c.in-IfThen.conditional c.in-IfThen.is) c.add_conditional.ensures
+
+pub add_kind-add_stepped-requires : goal.add_kind-add_stepped-requires
+add_kind-add_stepped-requires t c = search (rules, ap size_kind (for_step_at _ c.in-ForStep.stepped c.in-ForStep.is))
+
+pub add_kind-returns-in-ForStep : goal.add_kind-returns-in-ForStep
+add_kind-returns-in-ForStep t c = by_part kind_statements c.add_stepped.result c.args.places.now.items c.add_stepped.new.places.items _ _ (for_step_at _ c.in-ForStep.stepped c.in-ForStep.is) c.add_stepped.ensures

@@ -11,6 +11,6 @@ use Rattle.typed_phrases.proofs.statements.is_class.Goals as goal
 pub returns : goal.returns
 returns c =
     made_as c.made.result c.args.spot.place c.args.spot.first _ _ _ _
-    (c.is_verdict-verdict.ensures (c.args.name.now, c.args.place)
-    ∙ ap (λ (e : Option (Entry Known)). class_stated (class_fault (c.args.name.now, c.args.place) e) (meaning_of e) (part (type_of (view.verdict c.args.operand.verdict)) (is_row c.args.spot.place))) c.declared-class.ensures)
-    (search (rules, c.place_of.ensures c.args.name.now, c.declared-class.ensures)) c.made.ensures
+    (c.is_verdict-verdict.ensures c.args.class.now
+    ∙ ap (λ (e : Option (Entry Known)). class_stated (class_fault c.args.class.now e) (meaning_of e) (part (type_of (view.verdict c.args.operand.verdict)) (is_row c.args.spot.place))) c.declared-known.ensures)
+    (search (rules, c.place_of.ensures c.args.class.now.0, c.declared-known.ensures)) c.made.ensures

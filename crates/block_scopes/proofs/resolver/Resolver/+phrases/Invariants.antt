@@ -1,11 +1,10 @@
 use Rattle.std.proofs.Common.{suc, ◌+◌, map, drop}
 use Rattle.algolw_tree.specs.Grammar.{phrases_of, links_of, lists_of, actuals_of, items_of, decls_of, bounds_of}
-use Rattle.algolw_tree.specs.View.{tree, link_tree, list_tree, actual_tree, part_tree, item_tree, decl_tree, bound_tree, procedure_tree, optional_tree}
+use Rattle.algolw_tree.specs.View.{tree, link_tree, list_tree, actual_tree, part_tree, item_tree, decl_tree, bound_tree, procedure_tree, optional_tree, chain_tree, conditional_tree, case_value_tree, case_do_tree, for_step_tree, for_list_tree, block_tree}
 use Rattle.algolw_typing.specs.Naming.{phrases_naming, links_naming, lists_naming, actuals_naming, items_naming, bounds_naming, decls_naming}
 use Rattle.block_scopes.specs.Adding.{frame_view}
-use Rattle.name_scopes.specs.Paths.{path_view}
 use Rattle.block_scopes.proofs.Added.{Left}
-use Rattle.algolw_tree.proofs.Sizes.{size, size_perhaps, size_phrases, size_links, size_lists, size_listing, size_actuals, size_actual, size_items, size_bounds, size_decls, size_decl}
+use Rattle.algolw_tree.proofs.Sizes.{size, size_kind, size_perhaps, size_phrases, size_links, size_lists, size_listing, size_actuals, size_actual, size_items, size_bounds, size_decls, size_decl}
 use Rattle.block_scopes.proofs.Arms.{size_item}
 use Rattle.block_scopes.proofs.resolver.Resolver.+phrases.Given as goal
 
@@ -16,22 +15,22 @@ abbrev pub decreases-both : goal.decreases-both
 decreases-both l = suc (size (tree l.left.now) + size (tree l.right.now))
 
 abbrev pub decreases-chain : goal.decreases-chain
-decreases-chain l = suc (size (tree l.first.now) + size_links (links_of (map link_tree l.links.now)))
+decreases-chain l = size_kind (chain_tree l.chain.now)
 
 abbrev pub decreases-conditional : goal.decreases-conditional
-decreases-conditional l = suc (size (tree l.condition.now) + size (tree l.then.now) + size_perhaps (optional_tree l.otherwise.now))
+decreases-conditional l = size_kind (conditional_tree l.conditional.now)
 
 abbrev pub decreases-selection : goal.decreases-selection
-decreases-selection l = suc (size (tree l.subject.now) + size_phrases (phrases_of (map tree l.values.now)))
+decreases-selection l = size_kind (case_value_tree l.case.now)
 
 abbrev pub decreases-choice : goal.decreases-choice
-decreases-choice l = suc (size (tree l.subject.now) + size_phrases (phrases_of (map part_tree l.parts.now)))
+decreases-choice l = size_kind (case_do_tree l.case.now)
 
-abbrev pub decreases-range : goal.decreases-range
-decreases-range l = suc (size (tree l.start.now) + size_perhaps (optional_tree l.step.now) + size (tree l.limit.now))
+abbrev pub decreases-for_step : goal.decreases-for_step
+decreases-for_step l = size_kind (for_step_tree l.turns.now)
 
 abbrev pub decreases-for_list : goal.decreases-for_list
-decreases-for_list l = suc (size_phrases (phrases_of (map tree l.values.now)) + size (tree l.body.now))
+decreases-for_list l = size_kind (for_list_tree l.turns.now)
 
 abbrev pub decreases-perhaps : goal.decreases-perhaps
 decreases-perhaps l = size_perhaps (optional_tree l.phrase.now)
@@ -43,7 +42,7 @@ abbrev pub decreases-actual : goal.decreases-actual
 decreases-actual l = size_actual (actual_tree l.actual.now)
 
 abbrev pub decreases-block : goal.decreases-block
-decreases-block l = suc (suc (size_decls (decls_of (map decl_tree l.decls.now)) + size_items (items_of (map item_tree l.items.now))))
+decreases-block l = size_kind (block_tree l.block.now)
 
 abbrev pub decreases-decl : goal.decreases-decl
 decreases-decl l = suc (size_decl (decl_tree l.decl.now))
@@ -82,25 +81,25 @@ abbrev pub decreases-decls : goal.decreases-decls
 decreases-decls l = suc (size_decls (decls_of (map decl_tree l.decls.now)))
 
 abbrev pub invariant-phrases-loop-phrase : goal.invariant-phrases-loop-phrase
-invariant-phrases-loop-phrase l = Left (phrases_naming (frame_view l.frame) (path_view l.path) (phrases_of (map tree l.phrases))) (phrases_naming (frame_view l.frame) (path_view l.path) (phrases_of (map tree (drop l.phrase-index l.phrases)))) l.initial.self l.self
+invariant-phrases-loop-phrase l = Left (phrases_naming (frame_view l.frame) l.path (phrases_of (map tree l.phrases))) (phrases_naming (frame_view l.frame) l.path (phrases_of (map tree (drop l.phrase-index l.phrases)))) l.initial.self l.self
 
 abbrev pub invariant-parts-loop-part : goal.invariant-parts-loop-part
-invariant-parts-loop-part l = Left (phrases_naming (frame_view l.frame) (path_view l.path) (phrases_of (map part_tree l.parts))) (phrases_naming (frame_view l.frame) (path_view l.path) (phrases_of (map part_tree (drop l.part-index l.parts)))) l.initial.self l.self
+invariant-parts-loop-part l = Left (phrases_naming (frame_view l.frame) l.path (phrases_of (map part_tree l.parts))) (phrases_naming (frame_view l.frame) l.path (phrases_of (map part_tree (drop l.part-index l.parts)))) l.initial.self l.self
 
 abbrev pub invariant-links-loop-link : goal.invariant-links-loop-link
-invariant-links-loop-link l = Left (links_naming (frame_view l.frame) (path_view l.path) (links_of (map link_tree l.links))) (links_naming (frame_view l.frame) (path_view l.path) (links_of (map link_tree (drop l.link-index l.links)))) l.initial.self l.self
+invariant-links-loop-link l = Left (links_naming (frame_view l.frame) l.path (links_of (map link_tree l.links))) (links_naming (frame_view l.frame) l.path (links_of (map link_tree (drop l.link-index l.links)))) l.initial.self l.self
 
 abbrev pub invariant-lists-loop-list : goal.invariant-lists-loop-list
-invariant-lists-loop-list l = Left (lists_naming (frame_view l.frame) (path_view l.path) (lists_of (map list_tree l.lists))) (lists_naming (frame_view l.frame) (path_view l.path) (lists_of (map list_tree (drop l.list-index l.lists)))) l.initial.self l.self
+invariant-lists-loop-list l = Left (lists_naming (frame_view l.frame) l.path (lists_of (map list_tree l.lists))) (lists_naming (frame_view l.frame) l.path (lists_of (map list_tree (drop l.list-index l.lists)))) l.initial.self l.self
 
 abbrev pub invariant-actuals-loop-actual : goal.invariant-actuals-loop-actual
-invariant-actuals-loop-actual l = Left (actuals_naming (frame_view l.frame) (path_view l.path) (actuals_of (map actual_tree l.actuals))) (actuals_naming (frame_view l.frame) (path_view l.path) (actuals_of (map actual_tree (drop l.actual-index l.actuals)))) l.initial.self l.self
+invariant-actuals-loop-actual l = Left (actuals_naming (frame_view l.frame) l.path (actuals_of (map actual_tree l.actuals))) (actuals_naming (frame_view l.frame) l.path (actuals_of (map actual_tree (drop l.actual-index l.actuals)))) l.initial.self l.self
 
 abbrev pub invariant-items-loop-item : goal.invariant-items-loop-item
-invariant-items-loop-item l = Left (items_naming (frame_view l.frame) (path_view l.path) (items_of (map item_tree l.items))) (items_naming (frame_view l.frame) (path_view l.path) (items_of (map item_tree (drop l.item-index l.items)))) l.initial.self l.self
+invariant-items-loop-item l = Left (items_naming (frame_view l.frame) l.path (items_of (map item_tree l.items))) (items_naming (frame_view l.frame) l.path (items_of (map item_tree (drop l.item-index l.items)))) l.initial.self l.self
 
 abbrev pub invariant-bounds-loop-bound : goal.invariant-bounds-loop-bound
-invariant-bounds-loop-bound l = Left (bounds_naming (frame_view l.frame) (path_view l.path) (bounds_of (map bound_tree l.bounds))) (bounds_naming (frame_view l.frame) (path_view l.path) (bounds_of (map bound_tree (drop l.bound-index l.bounds)))) l.initial.self l.self
+invariant-bounds-loop-bound l = Left (bounds_naming (frame_view l.frame) l.path (bounds_of (map bound_tree l.bounds))) (bounds_naming (frame_view l.frame) l.path (bounds_of (map bound_tree (drop l.bound-index l.bounds)))) l.initial.self l.self
 
 abbrev pub invariant-decls-loop-decl : goal.invariant-decls-loop-decl
-invariant-decls-loop-decl l = Left (decls_naming (frame_view l.frame) (path_view l.around) (path_view l.path) (decls_of (map decl_tree l.decls))) (decls_naming (frame_view l.frame) (path_view l.around) (path_view l.path) (decls_of (map decl_tree (drop l.decl-index l.decls)))) l.initial.self l.self
+invariant-decls-loop-decl l = Left (decls_naming (frame_view l.frame) l.around l.path (decls_of (map decl_tree l.decls))) (decls_naming (frame_view l.frame) l.around l.path (decls_of (map decl_tree (drop l.decl-index l.decls)))) l.initial.self l.self

@@ -1,6 +1,5 @@
 use Rattle.std.proofs.Common.{◌≡◌, ◌≤◌, ◌<◌, ◌+◌, ◌∙◌, ap, sym, refl, subst, pos, ℕ, ℤ, List, Option, Some, None, Ok, map, drop, length, get_or, arith}
 use Rattle.std.specs.Prelude.{IfSome}
-use Rattle.std.specs.Option.{option_or}
 use Rattle.std.proofs.lemmas.List.{at_drop_all, get_or_default}
 use Rattle.cell_store.specs.declared.dimension.Dimension.{Dimension}
 use Rattle.cell_store.specs.Held.{further, further_all}
@@ -17,9 +16,9 @@ returns-in_default-clause-value c =
     let d : Dimension = get_or c.dimensions-dimension-items.result.now k (dimension (pos 0, pos 0)) in
     let items : c.dimensions-dimension-items.result.now ≡ now.dimensions = c.dimensions-dimension-items.ensures.value in
     let inside : k < length now.dimensions = omega (arith, ap length items) in
-    let given : c.or-subscript.result ≡ chosen d.given (drop next more) = c.or-subscript.ensures ∙ ap (option_or d.given) c.item_at.ensures ∙ sym (chosen_next d.given c.args.subscripts.now next) in
+    let given : c.chosen-subscript.result ≡ chosen d.given (drop next more) = c.chosen-subscript.ensures ∙ sym (chosen_next d.given c.args.subscripts.now next) in
     let here : get_or now.dimensions k d ≡ d = ap (λ ds. get_or ds k d) (sym items) ∙ get_or_default c.dimensions-dimension-items.result.now k d (dimension (pos 0, pos 0)) c.loop-dimension-test.true in
-    let stops : further_all now.dimensions more 0 ≡ None = sym c.loop-dimension.invariant.rest ∙ further_stops now.dimensions k d c.or-subscript.result (drop next more) c.loop-dimension.offset inside here given (sym c.further.ensures ∙ c.in_default.is) in
+    let stops : further_all now.dimensions more 0 ≡ None = sym c.loop-dimension.invariant.rest ∙ further_stops now.dimensions k d c.chosen-subscript.result (drop next more) c.loop-dimension.offset inside here given (sym c.further.ensures ∙ c.in_default.is) in
     not_found now c.args.subscripts.now stops
 
 pub loop-dimension-preserved : goal.loop-dimension-preserved
@@ -31,13 +30,13 @@ loop-dimension-preserved c =
     let d : Dimension = get_or c.dimensions-dimension-items.result.now k (dimension (pos 0, pos 0)) in
     let items : c.dimensions-dimension-items.result.now ≡ now.dimensions = c.dimensions-dimension-items.ensures.value in
     let inside : k < length now.dimensions = omega (arith, ap length items) in
-    let given : c.or-subscript.result ≡ chosen d.given (drop next more) = c.or-subscript.ensures ∙ ap (option_or d.given) c.item_at.ensures ∙ sym (chosen_next d.given c.args.subscripts.now next) in
+    let given : c.chosen-subscript.result ≡ chosen d.given (drop next more) = c.chosen-subscript.ensures ∙ sym (chosen_next d.given c.args.subscripts.now next) in
     let here : get_or now.dimensions k d ≡ d = ap (λ ds. get_or ds k d) (sym items) ∙ get_or_default c.dimensions-dimension-items.result.now k d (dimension (pos 0, pos 0)) c.loop-dimension-test.true in
-    let on : further d c.or-subscript.result c.loop-dimension.offset ≡ Some c.in-Some.further = sym c.further.ensures ∙ c.in-Some.is in
+    let on : further d c.chosen-subscript.result c.loop-dimension.offset ≡ Some c.in-Some.further = sym c.further.ensures ∙ c.in-Some.is in
     let left = left_next d.given more next (next + c.from-next.result) c.from-next.result c.is_none.result c.is_none.ensures c.from-next.ensures refl in
     record {
-      rest = further_on now.dimensions k d c.or-subscript.result (drop next more) (drop (next + c.from-next.result) more) c.loop-dimension.offset c.in-Some.further inside here given left on ∙ c.loop-dimension.invariant.rest;
-      most = further_most d c.or-subscript.result c.loop-dimension.offset c.in-Some.further on;
+      rest = further_on now.dimensions k d c.chosen-subscript.result (drop next more) (drop (next + c.from-next.result) more) c.loop-dimension.offset c.in-Some.further inside here given left on ∙ c.loop-dimension.invariant.rest;
+      most = further_most d c.chosen-subscript.result c.loop-dimension.offset c.in-Some.further on;
       few = omega (arith, c.from-next.ensures, taken_few c.is_none.result);
     }
 

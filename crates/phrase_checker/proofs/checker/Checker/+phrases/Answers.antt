@@ -8,11 +8,11 @@ use Rattle.algolw_tree.specs.Grammar.{phrases_of, links_of, lists_of, actuals_of
 use Rattle.algolw_tree.specs.Tree as tree
 use Rattle.algolw_tree.specs.View.{tree as tree_of, empty_tree, part_tree, link_tree, list_tree, actual_tree, item_tree, decl_tree, bound_tree, formal_tree, procedure_tree, spec_tree}
 use Rattle.algolw_typing.specs.Names.{Scope}
-use Rattle.algolw_typing.specs.Scopes.{Known, formal_scope}
+use Rattle.algolw_typing.specs.Scopes.{Known, Scopes, control_scope, formal_scope}
 use Rattle.algolw_typing.specs.Types.{Statement}
 use Rattle.algolw_typing.specs.Typed as typed
 use Rattle.algolw_typing.specs.Typing as rules_of
-use Rattle.algolw_typing.specs.Typing.{DeclOut, typed_bounds, typed_decl, typed_decls, typed_phrase}
+use Rattle.algolw_typing.specs.Typing.{DeclOut, typed_bounds, typed_decl, typed_decls, typed_items, typed_phrase}
 use Rattle.algolw_typing.specs.Verdicts.{Good}
 use Rattle.typing_rules.specs.MeaningView.{reading, wanted}
 use Rattle.typing_rules.specs.View as view
@@ -21,23 +21,23 @@ use Rattle.typed_drafts.specs.DraftView.{draft_view, empty_view, item_view}
 use Rattle.declared_names.specs.Blocks.{DeclFound, bounds_view}
 use Rattle.typed_phrases.specs.Found.{found_view}
 use Rattle.typed_phrases.specs.FrontViews.{front_view, given_out}
-use Rattle.declared_names.specs.KnownPaths.{path_view}
 use Rattle.typed_phrases.specs.declared.making.Typed.{Typed}
-use Rattle.phrase_checker.specs.Checked.{DeclsChecked, end_of}
-use Rattle.phrase_checker.proofs.BlockFound.{block_found, procedure_found}
+use Rattle.phrase_checker.specs.Checked.{DeclsChecked, ItemsChecked, Noted, end_of}
+use Rattle.phrase_checker.proofs.BlockFound.{block_found, noted_along, procedure_found}
 use Rattle.phrase_checker.proofs.BlockSteps.{as_many, bounds_step, meanings_step, kept_step, decls_step, decls_end, own_bounds, items_step, last_item, item_checked, empty_end, labelled_is, no_fault, phrase_in, size_item}
 use Rattle.phrase_checker.proofs.CaseSteps.{cases_step, cases_end, case_checked}
 use Rattle.declared_names.proofs.Bounding.{array_found, bounds_kept, procedure_is}
 use Rattle.phrase_checker.proofs.ForSteps.{range_checked, list_checked}
+use Rattle.phrase_checker.proofs.InBoxes.{listed_in, chain_in, conditional_in, class_test_in, case_value_in, case_do_in, for_step_in, for_list_in, block_in}
 use Rattle.phrase_checker.proofs.ListSteps as lists
-use Rattle.algolw_tree.proofs.Rows.{named_at, chain_at, case_value_at, case_do_at, for_list_at, block_at, actuals_at, array_at}
+use Rattle.algolw_tree.proofs.Rows.{actuals_at, array_at}
 use Rattle.algolw_tree.proofs.Sizes.{size, size_kind, size_phrases, size_links, size_lists, size_listing, size_actuals, size_actual, size_items, size_bounds, size_decls, size_decl, item_smaller}
 use Rattle.phrase_checker.proofs.Steps.{by_kind, if_else_checked, prefixed_checked, phrases_step, links_step}
 use Rattle.phrase_checker.proofs.checker.Checker.+phrases.Goals as goal
 
 pub conditional-returns-in_ok-phrase-in-Some : goal.conditional-returns-in_ok-phrase-in-Some
 conditional-returns-in_ok-phrase-in-Some t c =
-    if_else_checked c.if_else.result (path_view c.args.path.now) c.args.spot.place c.args.spot.first c.args.self.now c.in_ok-condition.ensures.between c.pair.new.self c.phrase.new.self _ _ c.in_ok-phrase-in-Some.field-0 (tree_of c.args.condition.now) (tree_of c.args.then.now) _ c.in-Some.otherwise c.deref.result.now c.in-Some.is c.deref.ensures
+    if_else_checked c.if_else.result c.args.path.now c.args.spot.place c.args.spot.first c.args.self.now c.in_ok-condition.ensures.between c.pair.new.self c.phrase.new.self _ _ c.in_ok-phrase-in-Some.field-0 (tree_of c.args.condition.now) (tree_of c.args.then.now) _ c.in-Some.otherwise c.deref.result.now c.in-Some.is c.deref.ensures
     c.in_ok-condition.ensures.first c.in_ok-condition.ensures.second c.in_ok-phrase-in-Some.ensures c.if_else.ensures
 
 pub pair-returns : goal.pair-returns
@@ -45,25 +45,7 @@ pair-returns t c = record { between = c.phrase.new.self; first = c.in_ok-first.e
 
 pub prefixed-returns : goal.prefixed-returns
 prefixed-returns t c =
-    prefixed_checked c.prefixed.result (path_view c.args.path.now) c.args.spot.place c.args.spot.first c.args.prefix c.args.self.now c.phrase.new.self c.in_ok-operand.operand (tree_of c.args.operand.now) c.in_ok-operand.ensures c.prefixed.ensures
-
-pub inside-chain-requires : goal.inside-chain-requires
-inside-chain-requires t c = search (rules, ap size_kind (chain_at _ c.in-Chain.first c.in-Chain.links _ _ c.in-Chain.is c.deref-in-Chain.ensures c.deref-in-Chain-2.ensures.value))
-
-pub inside-returns-in-Chain : goal.inside-returns-in-Chain
-inside-returns-in-Chain t c = by_kind c.chain.result c.args.self.now c.chain.new.self (path_view c.args.path.now) c.args.phrase.now.place c.args.phrase.now.first _ _ (chain_at _ c.in-Chain.first c.in-Chain.links _ _ c.in-Chain.is c.deref-in-Chain.ensures c.deref-in-Chain-2.ensures.value) c.chain.ensures
-
-pub inside-case_value-requires : goal.inside-case_value-requires
-inside-case_value-requires t c = search (rules, ap size_kind (case_value_at _ c.in-CaseValue.subject c.in-CaseValue.values _ _ c.in-CaseValue.is c.deref-in-CaseValue.ensures c.deref-in-CaseValue-2.ensures.value))
-
-pub inside-returns-in-CaseValue : goal.inside-returns-in-CaseValue
-inside-returns-in-CaseValue t c = by_kind c.case_value.result c.args.self.now c.case_value.new.self (path_view c.args.path.now) c.args.phrase.now.place c.args.phrase.now.first _ _ (case_value_at _ c.in-CaseValue.subject c.in-CaseValue.values _ _ c.in-CaseValue.is c.deref-in-CaseValue.ensures c.deref-in-CaseValue-2.ensures.value) c.case_value.ensures
-
-pub inside-case_do-requires : goal.inside-case_do-requires
-inside-case_do-requires t c = search (rules, ap size_kind (case_do_at _ c.in-CaseDo.subject c.in-CaseDo.parts _ _ c.in-CaseDo.is c.deref-in-CaseDo.ensures c.deref-in-CaseDo-2.ensures.value))
-
-pub inside-returns-in-CaseDo : goal.inside-returns-in-CaseDo
-inside-returns-in-CaseDo t c = by_kind c.case_do.result c.args.self.now c.case_do.new.self (path_view c.args.path.now) c.args.phrase.now.place c.args.phrase.now.first _ _ (case_do_at _ c.in-CaseDo.subject c.in-CaseDo.parts _ _ c.in-CaseDo.is c.deref-in-CaseDo.ensures c.deref-in-CaseDo-2.ensures.value) c.case_do.ensures
+    prefixed_checked c.prefixed.result c.args.path.now c.args.spot.place c.args.spot.first c.args.prefix c.args.self.now c.phrase.new.self c.in_ok-operand.operand (tree_of c.args.operand.now) c.in_ok-operand.ensures c.prefixed.ensures
 
 pub case_do-returns : goal.case_do-returns
 case_do-returns t c = case_checked c.case_do.result c.args.spot.place c.args.spot.first c.args.self.now c.phrase.new.self c.cases.new.self c.in_ok-subject.subject c.in_ok-cases.cases _ _ c.in_ok-subject.ensures c.in_ok-cases.ensures (c.case_do.ensures _ c.in_ok-cases.ensures.found)
@@ -75,10 +57,10 @@ cases-case-requires t c =
 
 pub cases-loop-part-preserved : goal.cases-loop-part-preserved
 cases-loop-part-preserved t c =
-    cases_step (path_view c.args.path.now) _ _ c.args.parts.now c.loop-part.part-index c.part-item.result c.loop-part.self c.case.new.self c.loop-part.found c.case.new.found c.loop-part-test.true c.part-item.is c.in_ok-case.ensures c.loop-part.invariant
+    cases_step c.args.path.now _ _ c.args.parts.now c.loop-part.part-index c.part-item.result c.loop-part.self c.case.new.self c.loop-part.found c.case.new.found c.loop-part-test.true c.part-item.is c.in_ok-case.ensures c.loop-part.invariant
 
 pub cases-returns : goal.cases-returns
-cases-returns t c = cases_end (path_view c.args.path.now) c.args.parts.now c.loop-part.part-index c.args.self.now c.loop-part.self c.loop-part.found c.loop-part-test.false c.loop-part.invariant
+cases-returns t c = cases_end c.args.path.now c.args.parts.now c.loop-part.part-index c.args.self.now c.loop-part.self c.loop-part.found c.loop-part-test.false c.loop-part.invariant
 
 pub links-phrase-requires : goal.links-phrase-requires
 links-phrase-requires t c =
@@ -87,7 +69,7 @@ links-phrase-requires t c =
 
 pub links-loop-link-preserved : goal.links-loop-link-preserved
 links-loop-link-preserved t c =
-    links_step (path_view c.args.path.now) _ _ c.args.links.now c.loop-link.link-index c.link-item.result c.loop-link.self c.phrase.new.self c.loop-link.found c.add.new.self c.in_ok-right.right c.loop-link-test.true c.link-item.is c.in_ok-right.ensures c.in_ok-add.ensures.verdict c.in_ok-add.ensures.drafts c.loop-link.invariant
+    links_step c.args.path.now _ _ c.args.links.now c.loop-link.link-index c.link-item.result c.loop-link.self c.phrase.new.self c.loop-link.found c.add.new.self c.in_ok-right.right c.loop-link-test.true c.link-item.is c.in_ok-right.ensures c.in_ok-add.ensures.verdict c.in_ok-add.ensures.drafts c.loop-link.invariant
 
 pub phrases-phrase-requires : goal.phrases-phrase-requires
 phrases-phrase-requires t c =
@@ -96,27 +78,7 @@ phrases-phrase-requires t c =
 
 pub phrases-loop-phrase-preserved : goal.phrases-loop-phrase-preserved
 phrases-loop-phrase-preserved t c =
-    phrases_step (path_view c.args.path.now) _ _ c.args.phrases.now c.loop-phrase.phrase-index c.phrase-item.result c.loop-phrase.self c.phrase.new.self c.loop-phrase.found c.add.new.self c.in_ok-typed.typed c.loop-phrase-test.true c.phrase-item.is c.in_ok-typed.ensures c.in_ok-add.ensures.gives c.in_ok-add.ensures.drafts c.loop-phrase.invariant
-
-pub inside-named-requires : goal.inside-named-requires
-inside-named-requires t c = search (rules, ap size_kind (named_at _ c.in-Named.name c.in-Named.lists _ c.in-Named.is c.deref-in-Named.ensures.value))
-
-pub inside-returns-in-Named : goal.inside-returns-in-Named
-inside-returns-in-Named t c = by_kind c.named.result c.args.self.now c.named.new.self (path_view c.args.path.now) c.args.phrase.now.place c.args.phrase.now.first _ _
-    (named_at _ c.in-Named.name c.in-Named.lists _ c.in-Named.is c.deref-in-Named.ensures.value ∙ ap (λ (n : List ℕ). tree.Named n (lists_of (map list_tree c.deref-in-Named.result.now))) (sym c.get-in-Named.ensures)) c.named.ensures
-
-pub inside-for_list-requires : goal.inside-for_list-requires
-inside-for_list-requires t c = search (rules, ap size_kind (for_list_at _ c.in-ForList.name c.in-ForList.values c.in-ForList.body _ _ c.in-ForList.is c.deref-in-ForList.ensures.value c.deref-in-ForList-2.ensures))
-
-pub inside-returns-in-ForList : goal.inside-returns-in-ForList
-inside-returns-in-ForList t c = by_kind c.for_list.result c.args.self.now c.for_list.new.self (path_view c.args.path.now) c.args.phrase.now.place c.args.phrase.now.first _ _
-    (for_list_at _ c.in-ForList.name c.in-ForList.values c.in-ForList.body _ _ c.in-ForList.is c.deref-in-ForList.ensures.value c.deref-in-ForList-2.ensures ∙ ap (λ (n : List ℕ). tree.ForList n (phrases_of (map tree_of c.deref-in-ForList.result.now)) (tree_of c.deref-in-ForList-2.result.now)) (sym c.get-in-ForList.ensures)) c.for_list.ensures
-
-pub inside-block-requires : goal.inside-block-requires
-inside-block-requires t c = search (rules, ap size_kind (block_at _ c.in-Block.decls c.in-Block.items _ _ c.in-Block.is c.deref-in-Block.ensures.value c.deref-in-Block-2.ensures.value))
-
-pub inside-returns-in-Block : goal.inside-returns-in-Block
-inside-returns-in-Block t c = by_kind c.block.result c.args.self.now c.block.new.self (path_view c.args.path.now) c.args.phrase.now.place c.args.phrase.now.first _ _ (block_at _ c.in-Block.decls c.in-Block.items _ _ c.in-Block.is c.deref-in-Block.ensures.value c.deref-in-Block-2.ensures.value) c.block.ensures
+    phrases_step c.args.path.now _ _ c.args.phrases.now c.loop-phrase.phrase-index c.phrase-item.result c.loop-phrase.self c.phrase.new.self c.loop-phrase.found c.add.new.self c.in_ok-typed.typed c.loop-phrase-test.true c.phrase-item.is c.in_ok-typed.ensures c.in_ok-add.ensures.gives c.in_ok-add.ensures.drafts c.loop-phrase.invariant
 
 pub named-list-requires : goal.named-list-requires
 named-list-requires t c =
@@ -157,21 +119,26 @@ range-returns t c = record {
   limit = c.in_ok-limit.ensures;
 }
 
+pub controlled-returns : goal.controlled-returns
+controlled-returns t c =
+    let around : c.inner.result ≡ control_scope c.args.place c.args.name.now ∷ c.args.path.now = c.inner.ensures ∙ ap (λ (s : Scope Known). s ∷ c.args.path.now) c.in_ok-scope.ensures in
+    subst (λ (q : Scopes). IfOk c.phrase.result (λ t. Noted c.args.self.now c.phrase.new.self t (typed_phrase q (tree_of c.args.body.now)))) around c.phrase.ensures
+
 pub for_range-returns : goal.for_range-returns
 for_range-returns t c =
-    range_checked c.for_range.result (path_view c.args.path.now) c.args.spot.place c.args.spot.first c.args.name.now c.args.self.now c.range.new.self c.controlled.new.self c.in_ok-range.range c.in_ok-body.body _ _ _ _ c.in_ok-range.ensures c.in_ok-body.ensures c.for_range.ensures
+    range_checked c.for_range.result c.args.path.now c.args.spot.place c.args.spot.first c.args.name.now c.args.self.now c.range.new.self c.controlled.new.self c.in_ok-range.range c.in_ok-body.body _ _ _ _ c.in_ok-range.ensures c.in_ok-body.ensures c.for_range.ensures
 
 pub for_list-returns : goal.for_list-returns
 for_list-returns t c = list_checked c.for_list.result c.args.spot.place c.args.spot.first c.args.self.now c.phrases.new.self c.controlled.new.self c.in_ok-values.values c.in_ok-body.body _ _ c.in_ok-values.ensures c.in_ok-body.ensures c.for_list.ensures
 
 pub named-loop-list-preserved : goal.named-loop-list-preserved
 named-loop-list-preserved t c =
-    lists.lists_step (path_view c.args.path.now) _ _ c.args.lists.now c.loop-list.list-index c.list-item.result c.args.name.now c.loop-list.self c.list.new.self c.loop-list.found c.list.new.found c.loop-list-test.true c.list-item.is (c.in_ok-list.ensures c.args.name.now) c.loop-list.invariant
+    lists.lists_step c.args.path.now _ _ c.args.lists.now c.loop-list.list-index c.list-item.result c.args.name.now c.loop-list.self c.list.new.self c.loop-list.found c.list.new.found c.loop-list-test.true c.list-item.is (c.in_ok-list.ensures c.args.name.now) c.loop-list.invariant
 
 pub named-returns : goal.named-returns
 named-returns t c =
     IfOk-weaker c.named.result _ _
-    (λ (u : Typed) h. lists.named_found (path_view c.args.path.now) c.args.spot.place c.args.spot.first c.args.name.now c.args.lists.now c.loop-list.list-index c.args.self.now c.loop-list.self _ c.loop-list.found u c.loop-list-test.false c.declared-target.ensures c.loop-list.invariant (h c.args.name.now))
+    (λ (u : Typed) h. lists.named_found c.args.path.now c.args.spot.place c.args.spot.first c.args.name.now c.args.lists.now c.loop-list.list-index c.args.self.now c.loop-list.self _ c.loop-list.found u c.loop-list-test.false c.declared-target.ensures c.loop-list.invariant (h c.args.name.now))
     c.named.ensures
 
 pub list-parts-requires : goal.list-parts-requires
@@ -179,42 +146,40 @@ list-parts-requires t c = search (rules, ap size_listing (actuals_at c.args.list
 
 pub list-returns-in_ok-add_list-in-Actuals : goal.list-returns-in_ok-add_list-in-Actuals
 list-returns-in_ok-add_list-in-Actuals t c x =
-    lists.list_checked (path_view c.args.path.now) x (list_tree c.args.list.now) c.args.list.now.place _ (front_view x c.args.found.now.front) _ c.args.self.now c.parts.new.self c.in_ok-parts-in-Actuals.parts c.args.found.now c.add_list.new.self
+    lists.list_checked c.args.path.now x (list_tree c.args.list.now) c.args.list.now.place _ (front_view x c.args.found.now.front) _ c.args.self.now c.parts.new.self c.in_ok-parts-in-Actuals.parts c.args.found.now c.add_list.new.self
     (actuals_at c.args.list.now.place _ c.in-Actuals.actuals _ c.in-Actuals.is c.deref.ensures.value) refl (c.reading.ensures x) c.in_ok-parts-in-Actuals.ensures (c.in_ok-add_list-in-Actuals.ensures.front x) c.in_ok-add_list-in-Actuals.ensures.drafts
 
 pub parts-loop-actual-preserved : goal.parts-loop-actual-preserved
 parts-loop-actual-preserved t c =
-    lists.parts_step (path_view c.args.path.now) _ _ c.args.actuals.now c.loop-actual.actual-index c.actual-item.result (reading c.loop-actual.reading) (reading c.behind-reading.result) (wanted c.wanted.result) c.loop-actual.self c.actual.new.self c.loop-actual.found c.actual.new.found
+    lists.parts_step c.args.path.now _ _ c.args.actuals.now c.loop-actual.actual-index c.actual-item.result (reading c.loop-actual.reading) (reading c.behind-reading.result) (wanted c.wanted.result) c.loop-actual.self c.actual.new.self c.loop-actual.found c.actual.new.found
     c.loop-actual-test.true c.actual-item.is c.wanted.ensures c.behind-reading.ensures c.in_ok-actual.ensures c.loop-actual.invariant
 
 pub actual-returns-in_ok-add-in-Phrase : goal.actual-returns-in_ok-add-in-Phrase
 actual-returns-in_ok-add-in-Phrase t c =
-    let path = path_view c.args.path.now in
-    let found = c.in_ok-typed-in-Phrase.typed in
-    let given = c.in_ok-given-in-Phrase.given in
-    let read : given_out given ≡ rules_of.given path (wanted c.args.wanted) (tree_of c.deref.result.now) (found_view found) =
-    c.in_ok-given-in-Phrase.ensures ∙ ap (λ (x : Phrase). rules_of.given path (wanted c.args.wanted) (tree_of x) (found_view found)) (c.deref-in-Phrase.ensures ∙ sym c.deref.ensures) in
-    lists.actual_checked path (wanted c.args.wanted) (actual_tree c.args.actual.now) (tree_of c.deref.result.now) c.args.self.now c.inside.new.self c.note.new.self found given c.args.found.now c.add.new.self
-    (ap actual_tree c.in-Phrase.is ∙ ap (λ (x : Phrase). tree.Given (tree_of x)) (sym c.deref.ensures)) c.in_ok-typed-in-Phrase.ensures read c.in_ok-note-in-Phrase.ensures c.in_ok-add-in-Phrase.ensures.parts c.in_ok-add-in-Phrase.ensures.drafts
+    let phrase = c.in-Phrase.phrase in
+    lists.actual_checked c.args.path.now (wanted c.args.wanted) (actual_tree c.args.actual.now) (tree_of phrase) c.args.self.now c.inside.new.self c.note.new.self c.in_ok-typed-in-Phrase.typed c.in_ok-given-in-Phrase.given c.args.found.now c.add.new.self
+    (ap actual_tree c.in-Phrase.is) c.in_ok-typed-in-Phrase.ensures c.in_ok-given-in-Phrase.ensures c.in_ok-note-in-Phrase.ensures c.in_ok-add-in-Phrase.ensures.parts c.in_ok-add-in-Phrase.ensures.drafts
 
 pub block-decls-requires : goal.block-decls-requires
 block-decls-requires t c = (omega arith, as_many _ _ _ c.in_ok-bounds.ensures.bounds)
 
 pub block-returns : goal.block-returns
 block-returns t c =
-    let path = path_view c.args.path.now in
+    let path = c.args.path.now in
     let decls = decls_of (map decl_tree c.args.decls.now) in
     IfOk-weaker c.block.result _ _
     (λ (u : Typed) h. block_found path c.args.spot.place c.args.spot.first c.args.self.now c.meanings.new.self c.decls.new.self c.items.new.self c.twice.new.faults.items c.in_ok-names.names c.meanings.new.scope c.declare_labels.new.scope decls (items_of (map item_tree c.args.items.now)) c.in_ok-decls.decls.now c.in_ok-items.items u
-    c.in_ok-names.ensures c.in_ok-twice.ensures c.in_ok-bounds.ensures.faults (c.in_ok-bounds.ensures.scope ∙ ap (λ (s : Scope Known). s ++ rules_of.meanings path (c.in_ok-names.names ∷ path) decls) c.new-scope.ensures) c.in_ok-declare_labels.ensures
-    (c.in_ok-decls.ensures path c.in_ok-bounds.ensures.bounds) c.in_ok-items.ensures h)
+    c.in_ok-names.ensures c.in_ok-twice.ensures c.in_ok-bounds.ensures.faults
+    (c.in_ok-bounds.ensures.scope ∙ ap (λ (s : Scope Known). s ++ rules_of.meanings path c.inner.result decls) c.new-scope.ensures ∙ ap (λ (q : Scopes). rules_of.meanings path q decls) c.inner.ensures) c.in_ok-declare_labels.ensures
+    (subst (λ (q : Scopes). DeclsChecked c.meanings.new.self c.decls.new.self c.in_ok-decls.decls.now (typed_decls path q decls)) c.inner-inner.ensures (c.in_ok-decls.ensures path c.in_ok-bounds.ensures.bounds))
+    (subst (λ (q : Scopes). ItemsChecked c.decls.new.self c.items.new.self c.in_ok-items.items (typed_items q (Good Statement) (items_of (map item_tree c.args.items.now)))) c.inner-inner.ensures c.in_ok-items.ensures) h)
     c.block.ensures
 
 pub meanings-loop-decl-preserved : goal.meanings-loop-decl-preserved
 meanings-loop-decl-preserved t c = (
   c.in_ok-bounds.ensures.faults ∙ c.loop-decl.invariant.0,
-  meanings_step (path_view c.args.path.now) (path_view c.args.names.now) _ c.args.decls.now c.loop-decl.decl-index c.decl-item.result c.loop-decl.scope c.declare.new.scope c.loop-decl-test.true c.decl-item.is (c.in_ok-declare.ensures (path_view c.args.path.now) c.in_ok-bounds.ensures.bounds) c.loop-decl.invariant.1,
-  kept_step (path_view c.args.path.now) _ c.args.decls.now c.loop-decl.decl-index c.decl-item.result c.loop-decl.found.items c.push.new.self.items c.in_ok-bounds.bounds c.loop-decl-test.true c.decl-item.is c.in_ok-push.ensures.items c.in_ok-bounds.ensures.bounds c.loop-decl.invariant.2,
+  meanings_step c.args.path.now c.args.names.now _ c.args.decls.now c.loop-decl.decl-index c.decl-item.result c.loop-decl.scope c.declare.new.scope c.loop-decl-test.true c.decl-item.is (c.in_ok-declare.ensures c.args.path.now c.in_ok-bounds.ensures.bounds) c.loop-decl.invariant.1,
+  kept_step c.args.path.now _ c.args.decls.now c.loop-decl.decl-index c.decl-item.result c.loop-decl.found.items c.push.new.self.items c.in_ok-bounds.bounds c.loop-decl-test.true c.decl-item.is c.in_ok-push.ensures.items c.in_ok-bounds.ensures.bounds c.loop-decl.invariant.2,
 )
 
 pub decl_bounds-bounds-requires : goal.decl_bounds-bounds-requires
@@ -222,34 +187,34 @@ decl_bounds-bounds-requires t c = search (rules, ap size_decl (array_at c.args.d
 
 pub decl_bounds-returns-clause-bounds : goal.decl_bounds-returns-clause-bounds
 decl_bounds-returns-clause-bounds t c =
-    let found = typed_bounds (path_view c.args.path.now) (bounds_of (map bound_tree c.deref.result.now)) in
+    let found = typed_bounds c.args.path.now (bounds_of (map bound_tree c.deref.result.now)) in
     let faults : c.in_ok-faults.faults.now ≡ found.inside = search rules in
-    bounds_kept (path_view c.args.path.now) c.args.decl.now c.in-Array.field-0 c.in-Array.field-1 c.in-Array.bounds c.deref.result.now (record { faults = c.in_ok-faults.faults; drafts = c.in_ok-drafts.drafts }) c.in-Array.is c.deref.ensures.value faults c.in_ok-drafts.ensures.bounds
+    bounds_kept c.args.path.now c.args.decl.now c.in-Array.field-0 c.in-Array.field-1 c.in-Array.bounds c.deref.result.now (record { faults = c.in_ok-faults.faults; drafts = c.in_ok-drafts.drafts }) c.in-Array.is c.deref.ensures.value faults c.in_ok-drafts.ensures.bounds
 
 pub bounds-loop-bound-preserved : goal.bounds-loop-bound-preserved
 bounds-loop-bound-preserved t c =
-    bounds_step (path_view c.args.path.now) _ _ c.args.bounds.now c.loop-bound.bound-index c.bound-item.result c.loop-bound.self c.bound.new.self c.loop-bound.found.items c.push.new.self.items c.in_ok-bound.field-0 c.loop-bound-test.true c.bound-item.is c.in_ok-bound.ensures c.in_ok-push.ensures.items c.loop-bound.invariant
+    bounds_step c.args.path.now _ _ c.args.bounds.now c.loop-bound.bound-index c.bound-item.result c.loop-bound.self c.bound.new.self c.loop-bound.found.items c.push.new.self.items c.in_ok-bound.field-0 c.loop-bound-test.true c.bound-item.is c.in_ok-bound.ensures c.in_ok-push.ensures.items c.loop-bound.invariant
 
 pub decls-loop-position-preserved : goal.decls-loop-position-preserved
 decls-loop-position-preserved t c around found =
     let own = own_bounds around c.args.bounds.now c.args.decls.now c.loop-position.position c.index-bounds-position.result c.index-decls-position.result c.loop-position-test.true found c.index-bounds-position.is c.index-decls-position.is in
-    decls_step around (path_view c.args.path.now) _ _ c.args.decls.now c.loop-position.position c.index-decls-position.result c.loop-position.self.faults.items c.decl.new.self.faults.items c.loop-position.found.items c.push.new.self.items c.in_ok-decl.decl
+    decls_step around c.args.path.now _ _ c.args.decls.now c.loop-position.position c.index-decls-position.result c.loop-position.self.faults.items c.decl.new.self.faults.items c.loop-position.found.items c.push.new.self.items c.in_ok-decl.decl
     c.loop-position-test.true c.index-decls-position.is (c.in_ok-decl.ensures around own) c.in_ok-push.ensures.items (c.loop-position.invariant around found)
 
 pub decls-returns : goal.decls-returns
 decls-returns t c around found =
-    subst (λ (ds : List DraftDecl). DeclsChecked c.args.self.now c.loop-position.self ds (typed_decls around (path_view c.args.path.now) (decls_of (map decl_tree c.args.decls.now)))) (sym c.into_bump_slice.ensures)
-    (decls_end around (path_view c.args.path.now) c.args.decls.now c.loop-position.position c.args.self.now c.loop-position.self c.loop-position.found.items c.loop-position-test.false (c.loop-position.invariant around found))
+    subst (λ (ds : List DraftDecl). DeclsChecked c.args.self.now c.loop-position.self ds (typed_decls around c.args.path.now (decls_of (map decl_tree c.args.decls.now)))) (sym c.into_bump_slice.ensures)
+    (decls_end around c.args.path.now c.args.decls.now c.loop-position.position c.args.self.now c.loop-position.self c.loop-position.found.items c.loop-position-test.false (c.loop-position.invariant around found))
 
 pub decl-returns-in-Array : goal.decl-returns-in-Array
 decl-returns-in-Array t c around found =
     let count : c.len.result ≡ length c.in-Array.sizes.items = search rules in
     subst (λ (o : DeclOut). IfOk c.array.result (λ d. DeclFound c.args.self.now.faults.items c.array.new.faults.items d o))
-    (array_found around (path_view c.args.path.now) c.args.decl.now c.in-Array.spec c.in-Array.names c.in-Array.sizes c.len.result (bounds_view c.args.bounds) c.in-Array.is count found) c.array.ensures
+    (array_found around c.args.path.now c.args.decl.now c.in-Array.spec c.in-Array.names c.in-Array.sizes c.len.result (bounds_view c.args.bounds) c.in-Array.is count found) c.array.ensures
 
 pub procedure-returns : goal.procedure-returns
 procedure-returns t c around =
-    let path = path_view c.args.path.now in
+    let path = c.args.path.now in
     let own = out-ProcDecl c.args.declared.now in
     let spec = option_map spec_tree own.result in
     let formals = c.deref.result.now in
@@ -257,33 +222,88 @@ procedure-returns t c around =
     ap (λ fs. tree.Proc own.place spec own.name (map formal_tree fs) (tree_of c.deref-3.result.now)) c.deref.ensures.value ∙ ap (λ (b : Phrase). tree.Proc own.place spec own.name (map formal_tree own.formals.items) (tree_of b)) c.deref-3.ensures ∙ sym (procedure_is c.args.declared.now) in
     subst (λ (z : tree.Decl). DeclFound c.args.self.now.faults.items c.note.new.self.faults.items c.procedure.result (typed_decl around path z)) same
     (procedure_found around path own.place spec own.name (map formal_tree formals) (tree_of c.deref-3.result.now) c.args.self.now.faults.items c.read_head.new.faults.items c.twice.new.faults.items c.note.new.self.faults.items _ c.phrase.new.self c.in_ok-formals.formals c.in_ok-head.head c.in_ok-body.body (view.verdict c.procedure_verdict.result) c.procedure.result
-    c.in_ok-head.ensures.faults c.in_ok-head.ensures.head (c.in_ok-formals.ensures ∙ ap (λ fs. formal_scope path (map formal_tree fs)) (c.deref-2.ensures.value ∙ sym c.deref.ensures.value)) c.in_ok-twice.ensures refl c.in_ok-body.ensures c.procedure_verdict.ensures c.in_ok-note.ensures c.procedure.ensures)
+    c.in_ok-head.ensures.faults c.in_ok-head.ensures.head (c.in_ok-formals.ensures ∙ ap (λ fs. formal_scope path (map formal_tree fs)) (c.deref-2.ensures.value ∙ sym c.deref.ensures.value)) c.in_ok-twice.ensures refl
+    (noted_along _ c.phrase.new.self c.in_ok-body.body (tree_of c.deref-3.result.now) c.inner.result (c.in_ok-formals.formals ∷ path) c.inner.ensures c.in_ok-body.ensures) c.procedure_verdict.ensures c.in_ok-note.ensures c.procedure.ensures)
 
 pub items-loop-position-preserved : goal.items-loop-position-preserved
 items-loop-position-preserved t c =
-    items_step (path_view c.args.path.now) _ _ c.args.items.now c.loop-position.position c.index-items-position.result _ c.loop-position.self c.item.new.self c.loop-position.found c.item.new.found c.loop-position-test.true c.index-items-position.is
+    items_step c.args.path.now _ _ c.args.items.now c.loop-position.position c.index-items-position.result _ c.loop-position.self c.item.new.self c.loop-position.found c.item.new.found c.loop-position-test.true c.index-items-position.is
     (last_item c.args.items.now c.loop-position.position _ c.loop-position-test.true refl) c.in_ok-item.ensures c.loop-position.invariant
 
 pub item-returns-in-Empty : goal.item-returns-in-Empty
 item-returns-in-Empty t c =
     let p = c.in-Empty.place in
-    item_checked c.add.result (path_view c.args.path.now) c.args.is_last _ [] (empty_tree p) c.args.self.now c.args.self.now c.args.found.now c.add.new.self (Good Statement) (typed.Labelled [] (empty_view p))
+    item_checked c.add.result c.args.path.now c.args.is_last _ [] (empty_tree p) c.args.self.now c.args.self.now c.args.found.now c.add.new.self (Good Statement) (typed.Labelled [] (empty_view p))
     (ap item_tree c.in-Empty.is) (empty_end c.args.is_last p) (no_fault c.args.self.now.faults.items) refl c.add.ensures.verdict c.add.ensures.drafts
 
 pub item-returns-in_ok-typed-in-Plain : goal.item-returns-in_ok-typed-in-Plain
 item-returns-in_ok-typed-in-Plain t c =
     let found = c.in_ok-typed-in-Plain.typed in
-    item_checked c.add-in-Plain.result (path_view c.args.path.now) c.args.is_last _ [] (tree_of c.deref.result.now) c.args.self.now c.item_phrase.new.self c.args.found.now c.add-in-Plain.new.self (view.verdict found.verdict) (typed.Labelled [] (draft_view found.draft.now))
+    item_checked c.add-in-Plain.result c.args.path.now c.args.is_last _ [] (tree_of c.deref.result.now) c.args.self.now c.item_phrase.new.self c.args.found.now c.add-in-Plain.new.self (view.verdict found.verdict) (typed.Labelled [] (draft_view found.draft.now))
     (ap item_tree c.in-Plain.is ∙ ap (λ (x : Phrase). tree.Labelled [] (tree_of x)) (sym c.deref.ensures)) c.in_ok-typed-in-Plain.ensures.verdict c.in_ok-typed-in-Plain.ensures.faults (ap (typed.Labelled []) c.in_ok-typed-in-Plain.ensures.node) c.add-in-Plain.ensures.verdict c.add-in-Plain.ensures.drafts
 
 pub labelled_item-returns : goal.labelled_item-returns
 labelled_item-returns t c =
     let own = out-Labelled c.args.item.now in
     let found = c.in_ok-typed.typed in
-    let o = typed_phrase (path_view c.args.path.now) (tree_of c.deref.result.now) in
-    item_checked c.add.result (path_view c.args.path.now) c.args.is_last _ own.labels.items (tree_of c.deref.result.now) c.args.self.now c.item_phrase.new.self c.args.found.now c.add.new.self (view.verdict found.verdict) (item_view c.in_ok-item.item)
+    let o = typed_phrase c.args.path.now (tree_of c.deref.result.now) in
+    item_checked c.add.result c.args.path.now c.args.is_last _ own.labels.items (tree_of c.deref.result.now) c.args.self.now c.item_phrase.new.self c.args.found.now c.add.new.self (view.verdict found.verdict) (item_view c.in_ok-item.item)
     (labelled_is c.args.item.now ∙ ap (λ (x : Phrase). tree.Labelled own.labels.items (tree_of x)) (sym c.deref.ensures)) (c.in_ok-typed.ensures.verdict ∙ ap (λ (l : Bool). end_of c.args.is_last l c.deref.result.now.first o) c.has_labels-is_labelled.ensures)
     c.in_ok-typed.ensures.faults (c.in_ok-item.ensures ∙ ap (typed.Labelled (rules_of.declare_at own.labels.items)) c.in_ok-typed.ensures.node) c.add.ensures.verdict c.add.ensures.drafts
 
 pub labelled_item-item_phrase-requires : goal.labelled_item-item_phrase-requires
 labelled_item-item_phrase-requires t c = search (rules, ap (λ (y : tree.Item). size (phrase_in y)) (labelled_is c.args.item.now))
+
+pub inside-chain-requires : goal.inside-chain-requires
+inside-chain-requires t c = search (rules, ap size_kind (chain_in _ c.in-Chain.chain c.deref-in-Chain.result.now c.deref-in-Chain-2.result.now c.deref-in-Chain-3.result.now c.in-Chain.is c.deref-in-Chain.ensures c.deref-in-Chain-2.ensures c.deref-in-Chain-3.ensures.value))
+
+pub inside-returns-in-Chain : goal.inside-returns-in-Chain
+inside-returns-in-Chain t c = by_kind c.chain.result c.args.self.now c.chain.new.self c.args.path.now c.args.phrase.now.place c.args.phrase.now.first _ _ (chain_in _ c.in-Chain.chain c.deref-in-Chain.result.now c.deref-in-Chain-2.result.now c.deref-in-Chain-3.result.now c.in-Chain.is c.deref-in-Chain.ensures c.deref-in-Chain-2.ensures c.deref-in-Chain-3.ensures.value) c.chain.ensures
+
+pub inside-case_value-requires : goal.inside-case_value-requires
+inside-case_value-requires t c = search (rules, ap size_kind (case_value_in _ c.in-CaseValue.case c.deref-in-CaseValue.result.now c.deref-in-CaseValue-2.result.now c.deref-in-CaseValue-3.result.now c.in-CaseValue.is c.deref-in-CaseValue.ensures c.deref-in-CaseValue-2.ensures c.deref-in-CaseValue-3.ensures.value))
+
+pub inside-returns-in-CaseValue : goal.inside-returns-in-CaseValue
+inside-returns-in-CaseValue t c = by_kind c.case_value.result c.args.self.now c.case_value.new.self c.args.path.now c.args.phrase.now.place c.args.phrase.now.first _ _ (case_value_in _ c.in-CaseValue.case c.deref-in-CaseValue.result.now c.deref-in-CaseValue-2.result.now c.deref-in-CaseValue-3.result.now c.in-CaseValue.is c.deref-in-CaseValue.ensures c.deref-in-CaseValue-2.ensures c.deref-in-CaseValue-3.ensures.value) c.case_value.ensures
+
+pub inside-case_do-requires : goal.inside-case_do-requires
+inside-case_do-requires t c = search (rules, ap size_kind (case_do_in _ c.in-CaseDo.case c.deref-in-CaseDo.result.now c.deref-in-CaseDo-2.result.now c.deref-in-CaseDo-3.result.now c.in-CaseDo.is c.deref-in-CaseDo.ensures c.deref-in-CaseDo-2.ensures c.deref-in-CaseDo-3.ensures.value))
+
+pub inside-returns-in-CaseDo : goal.inside-returns-in-CaseDo
+inside-returns-in-CaseDo t c = by_kind c.case_do.result c.args.self.now c.case_do.new.self c.args.path.now c.args.phrase.now.place c.args.phrase.now.first _ _ (case_do_in _ c.in-CaseDo.case c.deref-in-CaseDo.result.now c.deref-in-CaseDo-2.result.now c.deref-in-CaseDo-3.result.now c.in-CaseDo.is c.deref-in-CaseDo.ensures c.deref-in-CaseDo-2.ensures c.deref-in-CaseDo-3.ensures.value) c.case_do.ensures
+
+pub inside-for_list-requires : goal.inside-for_list-requires
+inside-for_list-requires t c = search (rules, ap size_kind (for_list_in _ c.in-ForList.turns c.deref-in-ForList.result.now c.deref-in-ForList-2.result.now c.deref-in-ForList-4.result.now c.deref-in-ForList-3.result.now c.in-ForList.is c.deref-in-ForList.ensures c.deref-in-ForList-2.ensures c.deref-in-ForList-4.ensures c.deref-in-ForList-3.ensures.value))
+
+pub inside-returns-in-ForList : goal.inside-returns-in-ForList
+inside-returns-in-ForList t c = by_kind c.for_list.result c.args.self.now c.for_list.new.self c.args.path.now c.args.phrase.now.place c.args.phrase.now.first _ _ (for_list_in _ c.in-ForList.turns c.deref-in-ForList.result.now c.deref-in-ForList-2.result.now c.deref-in-ForList-4.result.now c.deref-in-ForList-3.result.now c.in-ForList.is c.deref-in-ForList.ensures c.deref-in-ForList-2.ensures c.deref-in-ForList-4.ensures c.deref-in-ForList-3.ensures.value) c.for_list.ensures
+
+pub inside-block-requires : goal.inside-block-requires
+inside-block-requires t c = search (rules, ap size_kind (block_in _ c.in-Block.block c.deref-in-Block.result.now c.deref-in-Block-3.result.now c.deref-in-Block-2.result.now c.deref-in-Block-4.result.now c.in-Block.is c.deref-in-Block.ensures c.deref-in-Block-3.ensures c.deref-in-Block-2.ensures.value c.deref-in-Block-4.ensures.value))
+
+pub inside-returns-in-Block : goal.inside-returns-in-Block
+inside-returns-in-Block t c = by_kind c.block.result c.args.self.now c.block.new.self c.args.path.now c.args.phrase.now.place c.args.phrase.now.first _ _ (block_in _ c.in-Block.block c.deref-in-Block.result.now c.deref-in-Block-3.result.now c.deref-in-Block-2.result.now c.deref-in-Block-4.result.now c.in-Block.is c.deref-in-Block.ensures c.deref-in-Block-3.ensures c.deref-in-Block-2.ensures.value c.deref-in-Block-4.ensures.value) c.block.ensures
+
+pub inside-conditional-requires : goal.inside-conditional-requires
+inside-conditional-requires t c = search (rules, ap size_kind (conditional_in _ c.in-IfThen.choice c.deref-in-IfThen.result.now c.deref-in-IfThen-2.result.now c.deref-in-IfThen-3.result.now c.in-IfThen.is c.deref-in-IfThen.ensures c.deref-in-IfThen-2.ensures c.deref-in-IfThen-3.ensures))
+
+pub inside-returns-in-IfThen : goal.inside-returns-in-IfThen
+inside-returns-in-IfThen t c = by_kind c.conditional.result c.args.self.now c.conditional.new.self c.args.path.now c.args.phrase.now.place c.args.phrase.now.first _ _ (conditional_in _ c.in-IfThen.choice c.deref-in-IfThen.result.now c.deref-in-IfThen-2.result.now c.deref-in-IfThen-3.result.now c.in-IfThen.is c.deref-in-IfThen.ensures c.deref-in-IfThen-2.ensures c.deref-in-IfThen-3.ensures) c.conditional.ensures
+
+pub inside-is_class-requires : goal.inside-is_class-requires
+inside-is_class-requires t c = search (rules, ap size_kind (class_test_in _ c.in-IsClass.test c.deref-in-IsClass.result.now c.deref-in-IsClass-2.result.now c.in-IsClass.is c.deref-in-IsClass.ensures c.deref-in-IsClass-2.ensures))
+
+pub inside-returns-in-IsClass : goal.inside-returns-in-IsClass
+inside-returns-in-IsClass t c = by_kind c.is_class.result c.args.self.now c.is_class.new.self c.args.path.now c.args.phrase.now.place c.args.phrase.now.first _ _ (class_test_in _ c.in-IsClass.test c.deref-in-IsClass.result.now c.deref-in-IsClass-2.result.now c.in-IsClass.is c.deref-in-IsClass.ensures c.deref-in-IsClass-2.ensures) c.is_class.ensures
+
+pub inside-for_range-requires : goal.inside-for_range-requires
+inside-for_range-requires t c = search (rules, ap size_kind (for_step_in _ c.in-ForStep.turns c.deref-in-ForStep.result.now c.deref-in-ForStep-2.result.now c.deref-in-ForStep-3.result.now c.deref-in-ForStep-4.result.now c.deref-in-ForStep-5.result.now c.in-ForStep.is c.deref-in-ForStep.ensures c.deref-in-ForStep-2.ensures c.deref-in-ForStep-3.ensures c.deref-in-ForStep-4.ensures c.deref-in-ForStep-5.ensures))
+
+pub inside-returns-in-ForStep : goal.inside-returns-in-ForStep
+inside-returns-in-ForStep t c = by_kind c.for_range.result c.args.self.now c.for_range.new.self c.args.path.now c.args.phrase.now.place c.args.phrase.now.first _ _ (for_step_in _ c.in-ForStep.turns c.deref-in-ForStep.result.now c.deref-in-ForStep-2.result.now c.deref-in-ForStep-3.result.now c.deref-in-ForStep-4.result.now c.deref-in-ForStep-5.result.now c.in-ForStep.is c.deref-in-ForStep.ensures c.deref-in-ForStep-2.ensures c.deref-in-ForStep-3.ensures c.deref-in-ForStep-4.ensures c.deref-in-ForStep-5.ensures) c.for_range.ensures
+
+pub inside-named-requires : goal.inside-named-requires
+inside-named-requires t c = search (rules, ap size_kind (listed_in _ c.in-Listed.listed c.deref-in-Listed.result.now c.deref-in-Listed-2.result.now c.deref-in-Listed-3.result.now c.in-Listed.is c.deref-in-Listed.ensures c.deref-in-Listed-2.ensures c.deref-in-Listed-3.ensures.value))
+
+pub inside-returns-in-Listed : goal.inside-returns-in-Listed
+inside-returns-in-Listed t c = by_kind c.named.result c.args.self.now c.named.new.self c.args.path.now c.args.phrase.now.place c.args.phrase.now.first _ _ (listed_in _ c.in-Listed.listed c.deref-in-Listed.result.now c.deref-in-Listed-2.result.now c.deref-in-Listed-3.result.now c.in-Listed.is c.deref-in-Listed.ensures c.deref-in-Listed-2.ensures c.deref-in-Listed-3.ensures.value) c.named.ensures

@@ -15,7 +15,6 @@ use Rattle.typed_phrases.specs.Fronts.{front_lists}
 use Rattle.typed_phrases.specs.FrontViews.{front_view}
 use Rattle.typed_drafts.specs.DraftView.{draft_view, part_view, link_view, actual_view, item_view, decl_view}
 use Rattle.typed_drafts.specs.DraftParts.{list_view, bound_view}
-use Rattle.declared_names.specs.KnownPaths.{path_view}
 use Rattle.algolw_tree.specs.View.{optional_tree}
 use Rattle.phrase_checker.proofs.BlockSteps.{BoundsSoFar, DeclsSoFar, ItemsSoFar, phrase_in}
 use Rattle.phrase_checker.proofs.ListSteps.{ListsSoFar, PartsSoFar}
@@ -64,17 +63,17 @@ decreases-case l = suc (suc (3 * size (part_tree l.part.now)))
 
 abbrev pub invariant-cases-loop-part : goal.invariant-cases-loop-part
 invariant-cases-loop-part l =
-    CasesSoFar l.initial.self.faults.items l.self.faults.items (given_view l.found.gives) (map part_view l.found.drafts.items) (typed_phrases (path_view l.path) (phrases_of (map part_tree l.parts)))
-    (typed_phrases (path_view l.path) (phrases_of (map part_tree (drop l.part-index l.parts))))
+    CasesSoFar l.initial.self.faults.items l.self.faults.items (given_view l.found.gives) (map part_view l.found.drafts.items) (typed_phrases l.path (phrases_of (map part_tree l.parts)))
+    (typed_phrases l.path (phrases_of (map part_tree (drop l.part-index l.parts))))
 
 abbrev pub decreases-phrases : goal.decreases-phrases
 decreases-phrases l = 3 * size_phrases (phrases_of (map tree l.phrases.now))
 
 abbrev pub invariant-phrases-loop-phrase : goal.invariant-phrases-loop-phrase
-invariant-phrases-loop-phrase l = PhrasesSoFar l.initial.self.faults.items l.self.faults.items (map given_view l.found.gives.items) (map draft_view l.found.drafts.items) (typed_phrases (path_view l.path) (phrases_of (map tree l.phrases))) (typed_phrases (path_view l.path) (phrases_of (map tree (drop l.phrase-index l.phrases))))
+invariant-phrases-loop-phrase l = PhrasesSoFar l.initial.self.faults.items l.self.faults.items (map given_view l.found.gives.items) (map draft_view l.found.drafts.items) (typed_phrases l.path (phrases_of (map tree l.phrases))) (typed_phrases l.path (phrases_of (map tree (drop l.phrase-index l.phrases))))
 
 abbrev pub invariant-links-loop-link : goal.invariant-links-loop-link
-invariant-links-loop-link l = LinksSoFar l.initial.self.faults.items l.self.faults.items (map link_view l.found.drafts.items) (typed_links (path_view l.path) (view.verdict l.initial.found.verdict) (links_of (map link_tree l.links))) (typed_links (path_view l.path) (view.verdict l.found.verdict) (links_of (map link_tree (drop l.link-index l.links))))
+invariant-links-loop-link l = LinksSoFar l.initial.self.faults.items l.self.faults.items (map link_view l.found.drafts.items) (typed_links l.path (view.verdict l.initial.found.verdict) (links_of (map link_tree l.links))) (typed_links l.path (view.verdict l.found.verdict) (links_of (map link_tree (drop l.link-index l.links))))
 
 abbrev pub decreases-is_class : goal.decreases-is_class
 decreases-is_class l = 3 * suc (size (tree l.operand.now))
@@ -147,30 +146,30 @@ decreases-item_phrase l = suc (suc (3 * size (tree l.phrase.now)))
 
 abbrev pub invariant-named-loop-list : goal.invariant-named-loop-list
 invariant-named-loop-list l =
-    ListsSoFar l.initial.self.faults.items l.self.faults.items (map list_view l.found.drafts.items) (first_list (path_view l.path) l.spot.place (declared (path_view l.path) l.name) (lists_of (map list_tree l.lists)))
-    (front_lists (path_view l.path) (front_view l.name l.found.front) (lists_of (map list_tree (drop l.list-index l.lists))))
+    ListsSoFar l.initial.self.faults.items l.self.faults.items (map list_view l.found.drafts.items) (first_list l.path l.spot.place (declared l.path l.name) (lists_of (map list_tree l.lists)))
+    (front_lists l.path (front_view l.name l.found.front) (lists_of (map list_tree (drop l.list-index l.lists))))
 
 abbrev pub invariant-parts-loop-actual : goal.invariant-parts-loop-actual
 invariant-parts-loop-actual l =
-    PartsSoFar l.initial.self.faults.items l.self.faults.items (map part l.found.parts.items) (map actual_view l.found.drafts.items) (typed_parts (path_view l.path) (reading l.initial.reading) (actuals_of (map actual_tree l.actuals)))
-    (typed_parts (path_view l.path) (reading l.reading) (actuals_of (map actual_tree (drop l.actual-index l.actuals))))
+    PartsSoFar l.initial.self.faults.items l.self.faults.items (map part l.found.parts.items) (map actual_view l.found.drafts.items) (typed_parts l.path (reading l.initial.reading) (actuals_of (map actual_tree l.actuals)))
+    (typed_parts l.path (reading l.reading) (actuals_of (map actual_tree (drop l.actual-index l.actuals))))
 
 -- what is declared, and the bounds that are found, with what is left are all
 abbrev pub invariant-meanings-loop-decl : goal.invariant-meanings-loop-decl
 invariant-meanings-loop-decl l =
     (l.self.faults.items ≡ l.initial.self.faults.items)
-    × (l.scope ++ rules.meanings (path_view l.path) (path_view l.names) (decls_of (map decl_tree (drop l.decl-index l.decls))) ≡ l.initial.scope ++ rules.meanings (path_view l.path) (path_view l.names) (decls_of (map decl_tree l.decls)))
-    × (map bounds_view l.found.items ++ each_bounds (path_view l.path) (map decl_tree (drop l.decl-index l.decls)) ≡ each_bounds (path_view l.path) (map decl_tree l.decls))
+    × (l.scope ++ rules.meanings l.path l.names (decls_of (map decl_tree (drop l.decl-index l.decls))) ≡ l.initial.scope ++ rules.meanings l.path l.names (decls_of (map decl_tree l.decls)))
+    × (map bounds_view l.found.items ++ each_bounds l.path (map decl_tree (drop l.decl-index l.decls)) ≡ each_bounds l.path (map decl_tree l.decls))
 
 abbrev pub invariant-bounds-loop-bound : goal.invariant-bounds-loop-bound
-invariant-bounds-loop-bound l = BoundsSoFar l.initial.self.faults.items l.self.faults.items (map bound_view l.found.items) (typed_bounds (path_view l.path) (bounds_of (map bound_tree l.bounds))) (typed_bounds (path_view l.path) (bounds_of (map bound_tree (drop l.bound-index l.bounds))))
+invariant-bounds-loop-bound l = BoundsSoFar l.initial.self.faults.items l.self.faults.items (map bound_view l.found.items) (typed_bounds l.path (bounds_of (map bound_tree l.bounds))) (typed_bounds l.path (bounds_of (map bound_tree (drop l.bound-index l.bounds))))
 
 abbrev pub invariant-decls-loop-position : goal.invariant-decls-loop-position
 invariant-decls-loop-position l =
     (around : Scopes) → map bounds_view l.bounds ≡ each_bounds around (map decl_tree l.decls)
-    → DeclsSoFar l.initial.self.faults.items l.self.faults.items (map decl_view l.found.items) (typed_decls around (path_view l.path) (decls_of (map decl_tree l.decls))) (typed_decls around (path_view l.path) (decls_of (map decl_tree (drop l.position l.decls))))
+    → DeclsSoFar l.initial.self.faults.items l.self.faults.items (map decl_view l.found.items) (typed_decls around l.path (decls_of (map decl_tree l.decls))) (typed_decls around l.path (decls_of (map decl_tree (drop l.position l.decls))))
 
 abbrev pub invariant-items-loop-position : goal.invariant-items-loop-position
 invariant-items-loop-position l =
-    ItemsSoFar l.initial.self.faults.items l.self.faults.items (map item_view l.found.drafts.items) (typed_items (path_view l.path) (Good Statement) (items_of (map item_tree l.items)))
-    (typed_items (path_view l.path) (view.verdict l.found.verdict) (items_of (map item_tree (drop l.position l.items))))
+    ItemsSoFar l.initial.self.faults.items l.self.faults.items (map item_view l.found.drafts.items) (typed_items l.path (Good Statement) (items_of (map item_tree l.items)))
+    (typed_items l.path (view.verdict l.found.verdict) (items_of (map item_tree (drop l.position l.items))))

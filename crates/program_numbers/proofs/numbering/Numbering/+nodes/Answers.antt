@@ -1,11 +1,11 @@
 use Rattle.std.proofs.Common.{◌+◌, suc, map, refl, ap, subst, rules}
 use Rattle.algolw_typing.specs.Typed as typed
 use Rattle.algolw_typing.specs.ProgramView as program
-use Rattle.typed_drafts.specs.DraftView.{draft_view, kind_view, link_view, part_view, actual_view, item_view, decl_view}
+use Rattle.typed_drafts.specs.DraftView.{draft_view, link_view, part_view, actual_view, item_view, decl_view}
 use Rattle.typed_drafts.specs.DraftParts.{list_view, bound_view}
 use Rattle.typed_drafts.specs.Onto.{nodes_onto, links_onto, lists_onto, actuals_onto, items_onto, bounds_onto, decls_onto}
 use Rattle.typed_drafts.proofs.DraftSizes.{size, size_kind, size_nodes, size_parts, size_link, size_links, size_lists, size_listing, size_actuals, size_actual, size_items, size_item, size_bounds, size_decls, size_decl, item_smaller}
-use Rattle.typed_drafts.proofs.KindRows.{named_at, chain_at, case_value_at, case_do_at, for_list_at, block_at, actuals_at, array_at, labelled_at, link_at}
+use Rattle.typed_drafts.proofs.KindRows.{named_at, chain_at, case_value_at, case_do_at, if_at, for_step_at, for_list_at, block_at, actuals_at, array_at, labelled_at, link_at}
 use Rattle.typed_drafts.specs.declared.drafts.DraftLink.{out-DraftLink}
 use Rattle.typed_drafts.specs.declared.drafts.DraftProc.{out-DraftProc}
 use Rattle.program_numbers.proofs.ProcedureParts.{procedure_at}
@@ -162,48 +162,66 @@ kind-returns-in-Named t c = makes_same c.args.self.now c.args.table.now c.named.
 
 pub kind-chain-requires : goal.kind-chain-requires
 kind-chain-requires t c =
-    let e = chain_at _ c.in-Chain.first c.in-Chain.links c.in-Chain.is in
+    let e = chain_at _ c.in-Chain.chain c.in-Chain.is in
     let known = subst (KindNumbered c.args.self.now) e c.requires in
     search (rules, ap size_kind e)
 
 pub kind-returns-in-Chain : goal.kind-returns-in-Chain
-kind-returns-in-Chain t c = makes_same c.args.self.now c.args.table.now c.chain.new.table (λ made ns. program.kind_view ns made) c.chain.result _ _ (chain_at _ c.in-Chain.first c.in-Chain.links c.in-Chain.is) c.chain.ensures
+kind-returns-in-Chain t c = makes_same c.args.self.now c.args.table.now c.chain.new.table (λ made ns. program.kind_view ns made) c.chain.result _ _ (chain_at _ c.in-Chain.chain c.in-Chain.is) c.chain.ensures
 
 pub kind-case_value-requires : goal.kind-case_value-requires
 kind-case_value-requires t c =
-    let e = case_value_at _ c.in-CaseValue.subject c.in-CaseValue.values c.in-CaseValue.is in
+    let e = case_value_at _ c.in-CaseValue.case c.in-CaseValue.is in
     let known = subst (KindNumbered c.args.self.now) e c.requires in
     search (rules, ap size_kind e)
 
 pub kind-returns-in-CaseValue : goal.kind-returns-in-CaseValue
-kind-returns-in-CaseValue t c = makes_same c.args.self.now c.args.table.now c.case_value.new.table (λ made ns. program.kind_view ns made) c.case_value.result _ _ (case_value_at _ c.in-CaseValue.subject c.in-CaseValue.values c.in-CaseValue.is) c.case_value.ensures
+kind-returns-in-CaseValue t c = makes_same c.args.self.now c.args.table.now c.case_value.new.table (λ made ns. program.kind_view ns made) c.case_value.result _ _ (case_value_at _ c.in-CaseValue.case c.in-CaseValue.is) c.case_value.ensures
 
 pub kind-case_do-requires : goal.kind-case_do-requires
 kind-case_do-requires t c =
-    let e = case_do_at _ c.in-CaseDo.subject c.in-CaseDo.parts c.in-CaseDo.is in
+    let e = case_do_at _ c.in-CaseDo.case c.in-CaseDo.is in
     let known = subst (KindNumbered c.args.self.now) e c.requires in
     search (rules, ap size_kind e)
 
 pub kind-returns-in-CaseDo : goal.kind-returns-in-CaseDo
-kind-returns-in-CaseDo t c = makes_same c.args.self.now c.args.table.now c.case_do.new.table (λ made ns. program.kind_view ns made) c.case_do.result _ _ (case_do_at _ c.in-CaseDo.subject c.in-CaseDo.parts c.in-CaseDo.is) c.case_do.ensures
+kind-returns-in-CaseDo t c = makes_same c.args.self.now c.args.table.now c.case_do.new.table (λ made ns. program.kind_view ns made) c.case_do.result _ _ (case_do_at _ c.in-CaseDo.case c.in-CaseDo.is) c.case_do.ensures
+
+pub kind-conditional-requires : goal.kind-conditional-requires
+kind-conditional-requires t c =
+    let e = if_at _ c.in-IfThen.conditional c.in-IfThen.is in
+    let known = subst (KindNumbered c.args.self.now) e c.requires in
+    search (rules, ap size_kind e)
+
+pub kind-returns-in-IfThen : goal.kind-returns-in-IfThen
+kind-returns-in-IfThen t c = makes_same c.args.self.now c.args.table.now c.conditional.new.table (λ made ns. program.kind_view ns made) c.conditional.result _ _ (if_at _ c.in-IfThen.conditional c.in-IfThen.is) c.conditional.ensures
+
+pub kind-stepped-requires : goal.kind-stepped-requires
+kind-stepped-requires t c =
+    let e = for_step_at _ c.in-ForStep.stepped c.in-ForStep.is in
+    let known = subst (KindNumbered c.args.self.now) e c.requires in
+    search (rules, ap size_kind e)
+
+pub kind-returns-in-ForStep : goal.kind-returns-in-ForStep
+kind-returns-in-ForStep t c = makes_same c.args.self.now c.args.table.now c.stepped.new.table (λ made ns. program.kind_view ns made) c.stepped.result _ _ (for_step_at _ c.in-ForStep.stepped c.in-ForStep.is) c.stepped.ensures
 
 pub kind-listed-requires : goal.kind-listed-requires
 kind-listed-requires t c =
-    let e = for_list_at _ c.in-ForList.control c.in-ForList.values c.in-ForList.body c.in-ForList.is in
+    let e = for_list_at _ c.in-ForList.listed c.in-ForList.is in
     let known = subst (KindNumbered c.args.self.now) e c.requires in
     search (rules, ap size_kind e)
 
 pub kind-returns-in-ForList : goal.kind-returns-in-ForList
-kind-returns-in-ForList t c = makes_same c.args.self.now c.args.table.now c.listed.new.table (λ made ns. program.kind_view ns made) c.listed.result _ _ (for_list_at _ c.in-ForList.control c.in-ForList.values c.in-ForList.body c.in-ForList.is) c.listed.ensures
+kind-returns-in-ForList t c = makes_same c.args.self.now c.args.table.now c.listed.new.table (λ made ns. program.kind_view ns made) c.listed.result _ _ (for_list_at _ c.in-ForList.listed c.in-ForList.is) c.listed.ensures
 
 pub kind-block-requires : goal.kind-block-requires
 kind-block-requires t c =
-    let e = block_at _ c.in-Block.decls c.in-Block.items c.in-Block.is in
+    let e = block_at _ c.in-Block.block c.in-Block.is in
     let known = subst (KindNumbered c.args.self.now) e c.requires in
     search (rules, ap size_kind e)
 
 pub kind-returns-in-Block : goal.kind-returns-in-Block
-kind-returns-in-Block t c = makes_same c.args.self.now c.args.table.now c.block.new.table (λ made ns. program.kind_view ns made) c.block.result _ _ (block_at _ c.in-Block.decls c.in-Block.items c.in-Block.is) c.block.ensures
+kind-returns-in-Block t c = makes_same c.args.self.now c.args.table.now c.block.new.table (λ made ns. program.kind_view ns made) c.block.result _ _ (block_at _ c.in-Block.block c.in-Block.is) c.block.ensures
 
 pub list-actuals-requires : goal.list-actuals-requires
 list-actuals-requires t c =

@@ -1,4 +1,4 @@
-use Rattle.std.proofs.Common.{◌≡◌, ap, sym, ◌∙◌, arith, rules, length}
+use Rattle.std.proofs.Common.{ap, arith, rules, length}
 use Rattle.std.proofs.lemmas.Slice.Zip.{Zip-more, either_empty_from_Zip}
 use Rattle.algolw_typing.specs.ProgramView.{numbered}
 use Rattle.program_numbers.proofs.SidesAlike.{pair_alike, ends_alike}

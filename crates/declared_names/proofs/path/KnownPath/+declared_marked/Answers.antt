@@ -1,0 +1,15 @@
+use Rattle.std.proofs.Common.{◌≡◌, ◌<◌, Option, Some, None, get_or, sym, ap, ◌∙◌, ℕ, rules, refl}
+use Rattle.std.specs.Option.{option_map}
+use Rattle.algolw_typing.specs.Names.{in_scope}
+use Rattle.name_scopes.specs.Marks.{mark_of}
+use Rattle.declared_names.proofs.Passing.{looked_for}
+use Rattle.declared_names.proofs.path.KnownPath.+declared_marked.Goals as goal
+
+pub returns-in-None : goal.returns-in-None
+returns-in-None t c =
+    let x = c.args.name.now in
+    let within : mark_of x < 64 = search rules in
+    let nothing : get_or c.self.inside.nearest.each c.args.mark None ≡ None = search rules in
+    let kept : get_or c.self.inside.nearest.each (mark_of x) None ≡ None = ap (λ (n : ℕ). get_or c.self.inside.nearest.each n None) (sym c.requires) ∙ nothing in
+    c.standard_known-in-None.ensures
+    ∙ looked_for c.self.inside.scopes c.self.inside.nearest.each c.args.self.now c.in-Some.own c.in-Some.field-0-1 None x c.self.invariant c.self.view_is c.in-Some.is (sym c.in_default-find_marked.ensures) kept within
