@@ -67,7 +67,7 @@ pub fn phrase(parser: &mut Parser<'_>, room: u32) -> Result<Box<Phrase>, Stop>
     } else if parser.at_word(Word::While) {
         repetition(parser, room)
     } else if parser.at_goto() {
-        Ok(Box::new(parser.alloc, parser.jump()?)?)
+        parser.jump()
     } else if parser.at_word(Word::Assert) {
         assertion(parser, room)
     } else {
@@ -194,10 +194,7 @@ fn repetition(parser: &mut Parser<'_>, room: u32) -> Result<Box<Phrase>, Stop>
     let condition = phrase(parser, room)?;
     parser.expect_word(Word::Do)?;
     let body = perhaps(parser, room)?;
-    Ok(Box::new(
-        parser.alloc,
-        make::at(place, Kind::WhileDo(condition, body)),
-    )?)
+    Ok(make::repetition(parser.alloc, place, condition, body)?)
 }
 
 /// `ASSERT phrase`
@@ -223,9 +220,7 @@ fn assignment(parser: &mut Parser<'_>, room: u32) -> Result<Box<Phrase>, Stop>
     }
     let place = parser.expect_symbol(Symbol::Becomes)?;
     let right = phrase(parser, room)?;
-    let first = left.first;
-    let kind = Kind::Assign(left, right);
-    Ok(Box::new(parser.alloc, Phrase { place, first, kind })?)
+    Ok(make::assignment(parser.alloc, place, left, right)?)
 }
 
 /// Operands of a level with operators between them, of which the first of a sum may have a sign.
@@ -314,8 +309,8 @@ fn relation(parser: &mut Parser<'_>, room: u32) -> Result<Box<Phrase>, Stop>
     ensures { Gives boxed_tree result parser.new.rest.now (read_rel (readers room) parser.old.rest.now) }
 {
     let left = chain(parser, Level::Sum, room)?;
-    let first = left.first;
     if parser.at_word(Word::Is) {
+        let first = left.first;
         let place = parser.expect_word(Word::Is)?;
         let class = parser.expect_name()?;
         let reference = Box::into_inner(left);
@@ -325,8 +320,7 @@ fn relation(parser: &mut Parser<'_>, room: u32) -> Result<Box<Phrase>, Stop>
     } else if parser.at_comparison() {
         let (op, place) = parser.comparison()?;
         let right = chain(parser, Level::Sum, room)?;
-        let kind = Kind::Relation(op, left, right);
-        Ok(Box::new(parser.alloc, Phrase { place, first, kind })?)
+        Ok(make::relation(parser.alloc, op, place, left, right)?)
     } else {
         Ok(left)
     }

@@ -10,8 +10,12 @@ use Rattle.algolw_tree.specs.declared.phrases.Part.{Part}
 use Rattle.algolw_tree.specs.declared.phrases.Item.{Item}
 use Rattle.algolw_tree.specs.declared.phrases.Actual.{Actual}
 use Rattle.algolw_tree.specs.declared.phrases.Bound.{Bound}
-use Rattle.algolw_tree.specs.declared.phrases.Actual.TheBlock.{hidden-the_row-Bound-0, hidden-the_row-List-7, hidden-the_row-Link-6, hidden-the_row-Phrase-5, hidden-the_row-Part-1, hidden-the_row-Decl-2, hidden-the_row-Item-3, hidden-the_row-Actual-4, items_hidden-the_row-Bound-0, items_hidden-the_row-List-7, items_hidden-the_row-Link-6, items_hidden-the_row-Phrase-5, items_hidden-the_row-Part-1, items_hidden-the_row-Decl-2, items_hidden-the_row-Item-3, items_hidden-the_row-Actual-4}
-use Rattle.algolw_tree.specs.declared.phrases.Kind.{Kind, Listed as a_listed, Chain as a_chain, IsClass, IfThen, CaseValue as a_case_value, CaseDo as a_case_do, ForStep as a_for_step, ForList as a_for_list, Block as a_block}
+use Rattle.algolw_tree.specs.declared.phrases.Actual.TheBlock.{hidden-the_row-Bound-0, hidden-the_row-List-7, hidden-the_row-Link-6, hidden-the_row-Phrase-5, hidden-the_row-Part-2, hidden-the_row-Decl-3, hidden-the_row-Item-4, hidden-the_row-Actual-1, items_hidden-the_row-Bound-0, items_hidden-the_row-List-7, items_hidden-the_row-Link-6, items_hidden-the_row-Phrase-5, items_hidden-the_row-Part-2, items_hidden-the_row-Decl-3, items_hidden-the_row-Item-4, items_hidden-the_row-Actual-1}
+use Rattle.algolw_tree.specs.declared.phrases.Kind.{Kind, Applied as an_applied, Listed as a_listed, Chain as a_chain, Relation as a_relation, IsClass, Assign, WhileDo, IfThen, CaseValue as a_case_value, CaseDo as a_case_do, ForStep as a_for_step, ForList as a_for_list, Block as a_block}
+use Rattle.algolw_tree.specs.declared.phrases.Applied.{Applied}
+use Rattle.algolw_tree.specs.declared.phrases.Relation.{Relation}
+use Rattle.algolw_tree.specs.declared.phrases.Assignment.{Assignment}
+use Rattle.algolw_tree.specs.declared.phrases.Repetition.{Repetition}
 use Rattle.algolw_tree.specs.declared.phrases.Listed.{Listed, out-Listed, roll-Listed, roll-out-Listed, Row_of-List, end_of-List, more_of-List, items-the_row-List}
 use Rattle.algolw_tree.specs.declared.phrases.Chain.{Chain, out-Chain, roll-Chain, roll-out-Chain, Row_of-Link, end_of-Link, more_of-Link, items-the_row-Link}
 use Rattle.algolw_tree.specs.declared.phrases.Conditional.{Conditional, Conditional', out-Conditional, Some', None'}
@@ -27,7 +31,7 @@ use Rattle.algolw_tree.specs.Tree as Tree
 use Rattle.value_ops.specs.declared.places.Place.{Place}
 use Rattle.algolw_tree.specs.declared.phrases.TypeSpec.{TypeSpec}
 use Rattle.algolw_tree.specs.Grammar.{phrases_of, links_of, lists_of, actuals_of, items_of, decls_of, bounds_of}
-use Rattle.algolw_tree.specs.View.{tree, kind_tree, spec_tree, phrases_tree, links_tree, lists_tree, listing_tree, actuals_tree, parts_tree, items_tree, decls_tree, bounds_tree, link_tree, list_tree, actual_tree, part_tree, item_tree, decl_tree, bound_tree, optional_tree, listed_tree, chain_tree, conditional_tree, case_value_tree, for_step_tree, for_list_tree, class_test_tree, case_do_tree, block_tree}
+use Rattle.algolw_tree.specs.View.{tree, kind_tree, spec_tree, phrases_tree, links_tree, lists_tree, listing_tree, actuals_tree, parts_tree, items_tree, decls_tree, bounds_tree, link_tree, list_tree, actual_tree, part_tree, item_tree, decl_tree, bound_tree, optional_tree, applied_tree, listed_tree, chain_tree, relation_tree, assignment_tree, repetition_tree, conditional_tree, case_value_tree, for_step_tree, for_list_tree, class_test_tree, case_do_tree, block_tree}
 
 pub phrases_row : (n : _) (r : Row_of-Phrase n) → phrases_tree r ≡ phrases_of (map tree (items-the_row-Phrase n r))
 phrases_row n end_of-Phrase = refl
@@ -71,17 +75,17 @@ vec_links v = links_row _ (hidden-the_row-Link-6 v) ∙ ap (λ xs. links_of (map
 pub vec_lists : (v : Vec list.List Global) → lists_tree (hidden-the_row-List-7 v) ≡ lists_of (map list_tree v.items)
 vec_lists v = lists_row _ (hidden-the_row-List-7 v) ∙ ap (λ xs. lists_of (map list_tree xs)) (items_hidden-the_row-List-7 v)
 
-pub vec_actuals : (v : Vec Actual Global) → actuals_tree (hidden-the_row-Actual-4 v) ≡ actuals_of (map actual_tree v.items)
-vec_actuals v = actuals_row _ (hidden-the_row-Actual-4 v) ∙ ap (λ xs. actuals_of (map actual_tree xs)) (items_hidden-the_row-Actual-4 v)
+pub vec_actuals : (v : Vec Actual Global) → actuals_tree (hidden-the_row-Actual-1 v) ≡ actuals_of (map actual_tree v.items)
+vec_actuals v = actuals_row _ (hidden-the_row-Actual-1 v) ∙ ap (λ xs. actuals_of (map actual_tree xs)) (items_hidden-the_row-Actual-1 v)
 
-pub vec_items : (v : Vec Item Global) → items_tree (hidden-the_row-Item-3 v) ≡ items_of (map item_tree v.items)
-vec_items v = items_row _ (hidden-the_row-Item-3 v) ∙ ap (λ xs. items_of (map item_tree xs)) (items_hidden-the_row-Item-3 v)
+pub vec_items : (v : Vec Item Global) → items_tree (hidden-the_row-Item-4 v) ≡ items_of (map item_tree v.items)
+vec_items v = items_row _ (hidden-the_row-Item-4 v) ∙ ap (λ xs. items_of (map item_tree xs)) (items_hidden-the_row-Item-4 v)
 
-pub vec_parts : (v : Vec Part Global) → parts_tree (hidden-the_row-Part-1 v) ≡ phrases_of (map part_tree v.items)
-vec_parts v = parts_row _ (hidden-the_row-Part-1 v) ∙ ap (λ xs. phrases_of (map part_tree xs)) (items_hidden-the_row-Part-1 v)
+pub vec_parts : (v : Vec Part Global) → parts_tree (hidden-the_row-Part-2 v) ≡ phrases_of (map part_tree v.items)
+vec_parts v = parts_row _ (hidden-the_row-Part-2 v) ∙ ap (λ xs. phrases_of (map part_tree xs)) (items_hidden-the_row-Part-2 v)
 
-pub vec_decls : (v : Vec Decl Global) → decls_tree (hidden-the_row-Decl-2 v) ≡ decls_of (map decl_tree v.items)
-vec_decls v = decls_row _ (hidden-the_row-Decl-2 v) ∙ ap (λ xs. decls_of (map decl_tree xs)) (items_hidden-the_row-Decl-2 v)
+pub vec_decls : (v : Vec Decl Global) → decls_tree (hidden-the_row-Decl-3 v) ≡ decls_of (map decl_tree v.items)
+vec_decls v = decls_row _ (hidden-the_row-Decl-3 v) ∙ ap (λ xs. decls_of (map decl_tree xs)) (items_hidden-the_row-Decl-3 v)
 
 pub vec_bounds : (v : Vec Bound Global) → bounds_tree (hidden-the_row-Bound-0 v) ≡ bounds_of (map bound_tree v.items)
 vec_bounds v = bounds_row _ (hidden-the_row-Bound-0 v) ∙ ap (λ xs. bounds_of (map bound_tree xs)) (items_hidden-the_row-Bound-0 v)
@@ -114,6 +118,20 @@ unfolding roll-ForList denote.Hole.Carrier.roll
 for_list_is l = ap for_list_tree (sym (roll-out-ForList l)) ∙ ap (λ xs. Tree.ForList (out-ForList l).name xs (tree (out-ForList l).body)) (vec_phrases (out-ForList l).values)
 
 -- a phrase's kind that is a box of one of these
+pub applied_at : (k : Kind) (b : Box Applied Global) (a : Applied) → k ≡ an_applied b → a ≡ b.value → kind_tree k ≡ applied_tree a
+applied_at k b a is held =
+    ap kind_tree is ∙ ap (λ xs. Tree.Named b.value.name (Tree.list_and (Tree.OfActuals b.value.place xs) Tree.no_lists)) (vec_actuals b.value.actuals)
+    ∙ ap applied_tree (sym held)
+
+pub relation_at : (k : Kind) (b : Box Relation Global) (r : Relation) → k ≡ a_relation b → r ≡ b.value → kind_tree k ≡ relation_tree r
+relation_at k b r is held = ap kind_tree is ∙ ap relation_tree (sym held)
+
+pub assignment_at : (k : Kind) (b : Box Assignment Global) (a : Assignment) → k ≡ Assign b → a ≡ b.value → kind_tree k ≡ assignment_tree a
+assignment_at k b a is held = ap kind_tree is ∙ ap assignment_tree (sym held)
+
+pub repetition_at : (k : Kind) (b : Box Repetition Global) (r : Repetition) → k ≡ WhileDo b → r ≡ b.value → kind_tree k ≡ repetition_tree r
+repetition_at k b r is held = ap kind_tree is ∙ ap repetition_tree (sym held)
+
 pub listed_at : (k : Kind) (b : Box Listed Global) (l : Listed) → k ≡ a_listed b → l ≡ b.value → kind_tree k ≡ listed_tree l
 listed_at k b l is held = ap kind_tree is ∙ ap listed_tree (sym held)
 
@@ -140,7 +158,7 @@ for_list_at k b l is held = ap kind_tree is ∙ ap for_list_tree (sym held)
 
 pub block_at : (k : Kind) (b : Box Block Global) (block : Block) → k ≡ a_block b → block ≡ b.value → kind_tree k ≡ block_tree block
 block_at k b block is held =
-    ap kind_tree is ∙ ap (λ zs. Tree.Block zs (items_tree (hidden-the_row-Item-3 b.value.items))) (vec_decls b.value.decls)
+    ap kind_tree is ∙ ap (λ zs. Tree.Block zs (items_tree (hidden-the_row-Item-4 b.value.items))) (vec_decls b.value.decls)
     ∙ ap (Tree.Block (decls_of (map decl_tree b.value.decls.items))) (vec_items b.value.items) ∙ ap block_tree (sym held)
 
 pub actuals_at : (p : Place) (k : ListKind) (v : Vec Actual Global) (xs : List Actual) → k ≡ Actuals v → xs ≡ v.items → listing_tree p k ≡ Tree.OfActuals p (actuals_of (map actual_tree xs))

@@ -3,6 +3,7 @@ use Rattle.std.specs.Prelude.{ℕ, ◌≤◌, List, take}
 use Rattle.algolw_tree.specs.declared.spelling.Held.{Held}
 use Rattle.algolw_tree.specs.declared.spelling.Held.TheVariants.{InPlace, Apart}
 use Rattle.algolw_tree.specs.declared.spelling.Spelling.TheInside.{Inside}
+use Rattle.algolw_tree.specs.declared.spelling.ShortName.TheInside as short
 
 -- the characters
 abbrev pub characters : Held → List ℕ
@@ -19,3 +20,10 @@ spelled s = characters s.text
 
 abbrev pub Fits : Inside → Type 0
 Fits s = Holds s.text
+
+-- the same of a short name
+abbrev pub short_spelled : short.Inside → List ℕ
+short_spelled s = take s.count s.bytes
+
+abbrev pub FitsShort : short.Inside → Type 0
+FitsShort s = s.count ≤ 7

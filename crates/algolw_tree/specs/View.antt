@@ -4,7 +4,11 @@ use Rattle.std.specs.Option.{option_map}
 use Rattle.std.specs.declared.boxed.Box.{Box}
 use Rattle.std.specs.declared.alloc.Global.{Global}
 use Rattle.algolw_tree.specs.declared.phrases.Phrase.{Phrase}
-use Rattle.algolw_tree.specs.declared.phrases.Kind.{Kind, Empty, Null, Number, Truth, BitsLit, Quoted, Named, Goto, Listed', Negated', Abs', Signed', Chain', Relation', IsClass', Assign', IfThen', CaseValue', CaseDo', ForStep', ForList', WhileDo', Assert', Block'}
+use Rattle.algolw_tree.specs.declared.phrases.Kind.{Kind, Empty, Null, Number, Truth, BitsLit, Quoted, Named, Goto, Applied', Listed', Negated', Abs', Signed', Chain', Relation', IsClass', Assign', IfThen', CaseValue', CaseDo', ForStep', ForList', WhileDo', Assert', Block'}
+use Rattle.algolw_tree.specs.declared.phrases.Applied.{Applied}
+use Rattle.algolw_tree.specs.declared.phrases.Relation.{Relation}
+use Rattle.algolw_tree.specs.declared.phrases.Assignment.{Assignment}
+use Rattle.algolw_tree.specs.declared.phrases.Repetition.{Repetition}
 use Rattle.algolw_tree.specs.declared.phrases.Listed.{Listed, Listed' as listed, Row_of-List, end_of-List, more_of-List}
 use Rattle.algolw_tree.specs.declared.phrases.Chain.{Chain, Chain' as chain, Row_of-Link, end_of-Link, more_of-Link}
 use Rattle.algolw_tree.specs.declared.phrases.Conditional.{Conditional, Conditional', Held-Conditional-otherwise, Some', None'}
@@ -30,7 +34,7 @@ use Rattle.algolw_tree.specs.declared.phrases.TypeSpec.TheVariants as spec
 use Rattle.algolw_tree.specs.declared.phrases.Formal.{Formal}
 use Rattle.algolw_tree.specs.declared.phrases.ClassDecl.{ClassDecl}
 use Rattle.algolw_tree.specs.Tree as Tree
-use Rattle.algolw_tree.specs.Grammar.{phrases_of, decls_of, items_of}
+use Rattle.algolw_tree.specs.Grammar.{actuals_of, phrases_of, decls_of, items_of}
 
 abbrev pub spec_tree : TypeSpec → Tree.TypeSpec
 spec_tree spec.Integer = Tree.Integer
@@ -56,23 +60,24 @@ abbrev mutual
   kind_tree (Number n) = Tree.Number n
   kind_tree (Truth b) = Tree.Truth b
   kind_tree (BitsLit b) = Tree.BitsLit b
-  kind_tree (Quoted t) = Tree.Quoted t
-  kind_tree (Goto n) = Tree.Goto n
+  kind_tree (Quoted t) = Tree.Quoted t.value
+  kind_tree (Goto n) = Tree.Goto n.value
   kind_tree (Named n) = Tree.Named n Tree.no_lists
+  kind_tree (Applied' q n place shape actuals) = Tree.Named n (Tree.list_and (Tree.OfActuals place (actuals_tree actuals)) Tree.no_lists)
   kind_tree (Listed' q l) = listed_tree l
   kind_tree (Negated' q place first kind) = Tree.Negated (Tree.At place first (kind_tree kind))
   kind_tree (Abs' q place first kind) = Tree.Abs (Tree.At place first (kind_tree kind))
   kind_tree (Signed' minus q place first kind) = Tree.Signed minus (Tree.At place first (kind_tree kind))
   kind_tree (Chain' q c) = chain_tree c
-  kind_tree (Relation' op q place first kind q2 place2 first2 kind2) = Tree.Relation op (Tree.At place first (kind_tree kind)) (Tree.At place2 first2 (kind_tree kind2))
+  kind_tree (Relation' q op place first kind place2 first2 kind2) = Tree.Relation op (Tree.At place first (kind_tree kind)) (Tree.At place2 first2 (kind_tree kind2))
   kind_tree (IsClass' q place first kind class) = Tree.IsClass (Tree.At place first (kind_tree kind)) class.0 class.1
-  kind_tree (Assign' q place first kind q2 place2 first2 kind2) = Tree.Assign (Tree.At place first (kind_tree kind)) (Tree.At place2 first2 (kind_tree kind2))
+  kind_tree (Assign' q place first kind place2 first2 kind2) = Tree.Assign (Tree.At place first (kind_tree kind)) (Tree.At place2 first2 (kind_tree kind2))
   kind_tree (IfThen' q c) = conditional_tree c
   kind_tree (CaseValue' q c) = case_value_tree c
   kind_tree (CaseDo' q place first kind shape parts) = Tree.CaseDo (Tree.At place first (kind_tree kind)) (parts_tree parts)
   kind_tree (ForStep' q f) = for_step_tree f
   kind_tree (ForList' q f) = for_list_tree f
-  kind_tree (WhileDo' q place first kind q2 place2 first2 kind2) = Tree.WhileDo (Tree.At place first (kind_tree kind)) (Tree.At place2 first2 (kind_tree kind2))
+  kind_tree (WhileDo' q place first kind place2 first2 kind2) = Tree.WhileDo (Tree.At place first (kind_tree kind)) (Tree.At place2 first2 (kind_tree kind2))
   kind_tree (Assert' q place first kind) = Tree.Assert (Tree.At place first (kind_tree kind))
   kind_tree (Block' q shape decls shape2 items) = Tree.Block (decls_tree decls) (items_tree items)
 
@@ -176,6 +181,18 @@ bound_tree b = Tree.Between b.place (tree b.lower) (tree b.upper)
 abbrev pub optional_tree : Option (Box Phrase Global) → Tree.Perhaps
 optional_tree None = Tree.Missing
 optional_tree (Some a) = Tree.There (tree a.value)
+
+abbrev pub applied_tree : Applied → Tree.Kind
+applied_tree a = Tree.Named a.name (Tree.list_and (Tree.OfActuals a.place (actuals_of (map actual_tree a.actuals.items))) Tree.no_lists)
+
+abbrev pub relation_tree : Relation → Tree.Kind
+relation_tree r = Tree.Relation r.op (tree r.left) (tree r.right)
+
+abbrev pub assignment_tree : Assignment → Tree.Kind
+assignment_tree a = Tree.Assign (tree a.target) (tree a.value)
+
+abbrev pub repetition_tree : Repetition → Tree.Kind
+repetition_tree r = Tree.WhileDo (tree r.condition) (tree r.body)
 
 abbrev pub class_test_tree : ClassTest → Tree.Kind
 class_test_tree t = Tree.IsClass (tree t.reference) t.class.0 t.class.1

@@ -8,15 +8,15 @@ mod tokens;
 mod words;
 
 pub use phrases::{
-    Actual, Block, Bound, CaseDo, CaseValue, Chain, ClassDecl, ClassTest, Conditional, Decl,
-    ForList, ForStep, Formal, Item, Kind, Labelled, Link, List, ListKind, Listed, Mode, Names, Op,
-    Part, Phrase, ProcDecl, RelOp, TypeSpec,
+    Actual, Applied, Assignment, Block, Bound, CaseDo, CaseValue, Chain, ClassDecl, ClassTest,
+    Conditional, Decl, ForList, ForStep, Formal, Item, Kind, Labelled, Link, List, ListKind,
+    Listed, Mode, Names, Op, Part, Phrase, ProcDecl, RelOp, Relation, Repetition, TypeSpec,
 };
 pub use programs::{
     Gives, NameInfo, Node, NodeKind, Program, Targets, TypedActual, TypedBound, TypedClass,
     TypedDecl, TypedFormal, TypedItem, TypedLabelled, TypedLink, TypedList, TypedListKind,
     TypedPart, TypedProc, Use,
 };
-pub use spelling::Spelling;
+pub use spelling::{ShortName, Spelling};
 pub use tokens::{Literal, Symbol, Token, TokenKind, Word};
 pub use words::WORDS;

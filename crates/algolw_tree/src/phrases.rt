@@ -1,4 +1,4 @@
-use crate::spelling::Spelling;
+use crate::spelling::{ShortName, Spelling};
 use value_ops::Place;
 
 /// Names, each with its place.
@@ -16,7 +16,7 @@ pub struct Phrase {
     pub kind: Kind,
 }
 
-/// What a phrase is. What takes more than three words stands in a box.
+/// What a phrase is. What takes more than a word stands in a box.
 #[cycle(phrases)]
 #[derive(Drop)]
 pub enum Kind {
@@ -31,10 +31,12 @@ pub enum Kind {
     /// Bits that are written out.
     BitsLit(u32),
     /// A string that is written out.
-    Quoted(Spelling),
-    /// A name without lists behind it.
-    Named(Spelling),
-    /// A name, and the lists in parentheses behind it.
+    Quoted(Box<Spelling>),
+    /// A short name without lists behind it.
+    Named(ShortName),
+    /// A short name with one list of actuals behind it.
+    Applied(Box<Applied>),
+    /// Any other name, and the lists in parentheses behind it.
     Listed(Box<Listed>),
     /// `~` and its operand.
     Negated(Box<Phrase>),
@@ -45,11 +47,11 @@ pub enum Kind {
     /// Operands with operators of one level between them, from left to right.
     Chain(Box<Chain>),
     /// A comparison.
-    Relation(RelOp, Box<Phrase>, Box<Phrase>),
+    Relation(Box<Relation>),
     /// Whether a reference is to a record of the class that is named at a place.
     IsClass(Box<ClassTest>),
-    /// An assignment of the second to the first.
-    Assign(Box<Phrase>, Box<Phrase>),
+    /// An assignment.
+    Assign(Box<Assignment>),
     /// `IF` with a condition.
     IfThen(Box<Conditional>),
     /// `CASE` with the values to choose from.
@@ -60,17 +62,29 @@ pub enum Kind {
     ForStep(Box<ForStep>),
     /// `FOR` a control name with the values that are listed.
     ForList(Box<ForList>),
-    /// `WHILE`, its condition, and what is done.
-    WhileDo(Box<Phrase>, Box<Phrase>),
+    /// `WHILE` a condition holds.
+    WhileDo(Box<Repetition>),
     /// `GOTO` a label.
-    Goto(Spelling),
+    Goto(Box<Spelling>),
     /// `ASSERT` a condition.
     Assert(Box<Phrase>),
     /// A block.
     Block(Box<Block>),
 }
 
-/// A name with lists behind it.
+/// A short name with one list of subscripts, fields or actuals behind it.
+#[cycle(phrases)]
+#[derive(Drop)]
+pub struct Applied {
+    /// The name.
+    pub name: ShortName,
+    /// The place of the list's opening parenthesis.
+    pub place: Place,
+    /// The subscripts, fields or actuals.
+    pub actuals: Vec<Actual>,
+}
+
+/// A name with lists behind it, of which there may be none.
 #[cycle(phrases)]
 #[derive(Drop)]
 pub struct Listed {
@@ -90,6 +104,18 @@ pub struct Chain {
     pub links: Vec<Link>,
 }
 
+/// A comparison.
+#[cycle(phrases)]
+#[derive(Drop)]
+pub struct Relation {
+    /// How it compares.
+    pub op: RelOp,
+    /// What stands to the left of the operator.
+    pub left: Phrase,
+    /// What stands to the right of it.
+    pub right: Phrase,
+}
+
 /// A test of a reference's class.
 #[cycle(phrases)]
 #[derive(Drop)]
@@ -98,6 +124,16 @@ pub struct ClassTest {
     pub reference: Phrase,
     /// The class's name, and where that stands.
     pub class: (Spelling, Place),
+}
+
+/// An assignment.
+#[cycle(phrases)]
+#[derive(Drop)]
+pub struct Assignment {
+    /// What is assigned to.
+    pub target: Phrase,
+    /// What is assigned.
+    pub value: Phrase,
 }
 
 /// What is done where a condition holds, and otherwise.
@@ -156,6 +192,16 @@ pub struct ForList {
     pub name: Spelling,
     /// Its values.
     pub values: Vec<Phrase>,
+    /// What is done.
+    pub body: Phrase,
+}
+
+/// A loop that goes on as long as a condition holds.
+#[cycle(phrases)]
+#[derive(Drop)]
+pub struct Repetition {
+    /// The condition.
+    pub condition: Phrase,
     /// What is done.
     pub body: Phrase,
 }

@@ -1,4 +1,4 @@
-ghost use Rattle.std.specs.Prelude.{◌≡◌, ◌≤◌, length, take, IfOk};
+ghost use Rattle.std.specs.Prelude.{◌≡◌, ◌≤◌, length, take, IfOk, IfSome};
 ghost use Rattle.algolw_tree.specs.Spelled.{characters, Holds};
 
 use std::alloc::{AllocError, Global};
@@ -7,6 +7,9 @@ use value_ops::Name;
 
 /// How many characters stand in place: with their number and a tag they are as large as a pointer beside its tag.
 const MOST_IN_PLACE: usize = 14;
+
+/// How many characters a short name has at most: with their number they are as large as a pointer.
+const MOST_OF_SHORT: usize = 7;
 
 /// How a name or a string is spelled. A short one stands in place, so that what has it is small and takes nothing more.
 #[derive(Drop)]
@@ -67,6 +70,50 @@ impl Spelling {
             Held::Apart(name) => Held::Apart(Box::new(alloc, **name)?),
         };
         Ok(Spelling { text })
+    }
+}
+
+/// A name of so few characters that it is as small as a pointer.
+#[derive(Drop)]
+pub struct ShortName {
+    bytes: [u8; MOST_OF_SHORT],
+    /// How many of the bytes are its characters.
+    count: u8,
+}
+
+impl Model for ShortName {
+    ghost use Rattle.std.specs.Prelude.{ℕ, List};
+
+    ghost Value = { List ℕ };
+
+    ghost use Rattle.algolw_tree.specs.Spelled.{short_spelled, FitsShort};
+
+    ghost view = { short_spelled };
+
+    ghost invariant = { FitsShort };
+}
+
+impl ShortName {
+    /// This name, where it has so few characters.
+    pub fn new(name: &Spelling) -> Option<ShortName>
+        ensures { IfSome result (λ short. short ≡ name.now) }
+    {
+        let text = name.as_slice();
+        if text.len() > MOST_OF_SHORT {
+            return None;
+        }
+        let mut bytes = [0; MOST_OF_SHORT];
+        write_to(&mut bytes, text);
+        let count = text.len() as u8;
+        Some(ShortName { bytes, count })
+    }
+
+    /// How it is spelled.
+    pub fn spelling(&self) -> Spelling
+        ensures { result ≡ self.now }
+    {
+        let text = in_place(&self.bytes[..usize::from(self.count)]);
+        Spelling { text }
     }
 }
 

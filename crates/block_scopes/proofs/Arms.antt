@@ -1,5 +1,5 @@
 -- What a kind of phrase adds, by the tree that it is.
-use Rattle.std.proofs.Common.{◌≡◌, List, [], ◌∷◌, ◌++◌, ℕ, suc, ◌+◌, Option, Result, map, refl, sym, ap, subst, ◌∙◌, append_assoc}
+use Rattle.std.proofs.Common.{◌≡◌, List, [], ◌∷◌, ◌++◌, ℕ, suc, ◌+◌, Option, Result, map, refl, sym, ap, subst, ◌∙◌, append_assoc, append-nil}
 use Rattle.std.specs.Result.{OnOk}
 use Rattle.value_ops.specs.declared.places.Place.{Place}
 use Rattle.std.specs.Option.{option_map}
@@ -9,7 +9,7 @@ use Rattle.algolw_tree.specs.declared.phrases.Labelled.{Labelled, Labelled', out
 use Rattle.algolw_tree.specs.Tree as Tree
 use Rattle.algolw_tree.specs.Tree.{Placed}
 use Rattle.algolw_tree.proofs.Sizes.{size, size_items}
-use Rattle.algolw_typing.specs.Naming.{Naming, Frame, NamePath, and, naming, kind_naming, perhaps_naming, phrases_naming, items_naming, decl_naming, label_names, declares, inside, of_procedure, scope_of, formal_names, formal_uses, result_uses}
+use Rattle.algolw_typing.specs.Naming.{Naming, Frame, NamePath, nothing, and, naming, kind_naming, perhaps_naming, phrases_naming, items_naming, decl_naming, label_names, declares, inside, of_procedure, scope_of, formal_names, formal_uses, result_uses}
 use Rattle.block_scopes.specs.declared.resolver.Resolver.{Resolver}
 use Rattle.std.proofs.lemmas.Result.{on_ok_weaker}
 use Rattle.block_scopes.specs.Adding.{Adds}
@@ -19,6 +19,9 @@ use Rattle.block_scopes.proofs.Unnamed.{behind, none_of_result, none_of_formals}
 
 pub and_assoc : (a b c : Naming) → and (and a b) c ≡ and a (and b c)
 and_assoc a b c = simp append_assoc
+
+pub and_nothing : (a : Naming) → and a nothing ≡ a
+and_nothing a = simp append-nil
 
 pub by_naming : {T E : Type 0} (r : Result T E) (a b : Resolver) (m n : Naming) → m ≡ n → OnOk r (Adds a b m) → OnOk r (Adds a b n)
 by_naming r a b m n e h = subst (λ (o : Naming). OnOk r (Adds a b o)) e h

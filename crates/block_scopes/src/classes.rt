@@ -54,7 +54,7 @@ fn class_set<'a>(
             classes.push(place)?;
         }
     }
-    Ok(ClassSet::new(classes))
+    ClassSet::new(arena, classes)
 }
 
 /// The type that is written.

@@ -1,7 +1,7 @@
 ghost use Rattle.std.specs.Prelude.{◌≡◌, OnOk, map};
 ghost use Rattle.algolw_tree.specs.Tree as T;
 ghost use Rattle.algolw_tree.specs.Grammar.{phrases_of, links_of, lists_of, actuals_of, items_of, decls_of, bounds_of};
-ghost use Rattle.algolw_tree.specs.View.{tree, link_tree, list_tree, actual_tree, part_tree, item_tree, decl_tree, bound_tree, optional_tree, procedure_tree, chain_tree, conditional_tree, case_value_tree, case_do_tree, for_step_tree, for_list_tree, block_tree};
+ghost use Rattle.algolw_tree.specs.View.{tree, link_tree, list_tree, actual_tree, part_tree, item_tree, decl_tree, bound_tree, optional_tree, procedure_tree, applied_tree, assignment_tree, relation_tree, repetition_tree, chain_tree, conditional_tree, case_value_tree, case_do_tree, for_step_tree, for_list_tree, block_tree};
 ghost use Rattle.algolw_typing.specs.Naming.{and, naming, kind_naming, phrases_naming, perhaps_naming, links_naming, lists_naming, actuals_naming, items_naming, bounds_naming, decls_naming, decl_naming};
 ghost use Rattle.block_scopes.specs.Adding.{Adds, frame_view};
 ghost use Rattle.block_scopes.specs.Parts.{listing_naming, actual_naming, item_naming};
@@ -10,8 +10,9 @@ use crate::blocks::{block_scope, control_scope, formal_scope};
 use crate::frame::Frame;
 use crate::resolver::Resolver;
 use algolw_tree::{
-    Actual, Block, Bound, CaseDo, CaseValue, Chain, Conditional, Decl, ForList, ForStep, Item,
-    Kind, Link, List, ListKind, Part, Phrase, ProcDecl,
+    Actual, Applied, Assignment, Block, Bound, CaseDo, CaseValue, Chain, Conditional, Decl,
+    ForList, ForStep, Item, Kind, Link, List, ListKind, Part, Phrase, ProcDecl, Relation,
+    Repetition,
 };
 use name_scopes::ScopePath;
 use std::alloc::AllocError;
@@ -39,20 +40,21 @@ impl Resolver<'_> {
             | Kind::Quoted(_)
             | Kind::Goto(_)
             | Kind::Named(_) => Ok(()),
+            Kind::Applied(applied) => self.applied(frame, path, applied),
             Kind::Listed(listed) => self.lists(frame, path, &listed.lists),
             Kind::Negated(operand) => self.phrase(frame, path, operand),
             Kind::Abs(operand) => self.phrase(frame, path, operand),
             Kind::Signed(_, operand) => self.phrase(frame, path, operand),
             Kind::Chain(chain) => self.chain(frame, path, chain),
-            Kind::Relation(_, left, right) => self.both(frame, path, left, right),
+            Kind::Relation(relation) => self.relation(frame, path, relation),
             Kind::IsClass(test) => self.phrase(frame, path, &test.reference),
-            Kind::Assign(left, right) => self.both(frame, path, left, right),
+            Kind::Assign(assignment) => self.assignment(frame, path, assignment),
             Kind::IfThen(conditional) => self.conditional(frame, path, conditional),
             Kind::CaseValue(case) => self.selection(frame, path, case),
             Kind::CaseDo(case) => self.choice(frame, path, case),
             Kind::ForStep(turns) => self.for_step(frame, path, place, turns),
             Kind::ForList(turns) => self.for_list(frame, path, place, turns),
-            Kind::WhileDo(condition, body) => self.both(frame, path, condition, body),
+            Kind::WhileDo(repetition) => self.repetition(frame, path, repetition),
             Kind::Assert(condition) => self.phrase(frame, path, condition),
             Kind::Block(block) => self.block(frame, path, block),
         }
@@ -74,6 +76,62 @@ impl Resolver<'_> {
         self.phrase(frame, path, left)?;
         self.phrase(frame, path, right)?;
         Ok(())
+    }
+
+    /// Resolves a name with one list of actuals behind it.
+    #[cycle(phrases)]
+    fn applied<'t>(
+        &mut self,
+        frame: Frame,
+        path: &ScopePath<'_, 't>,
+        applied: &'t Applied,
+    ) -> Result<(), AllocError>
+        ensures { (place : Place) → OnOk result (Adds self.old self.new
+            (kind_naming (frame_view frame) path.now place (applied_tree applied.now))) }
+    {
+        self.actuals(frame, path, &applied.actuals)
+    }
+
+    /// Resolves a comparison.
+    #[cycle(phrases)]
+    fn relation<'t>(
+        &mut self,
+        frame: Frame,
+        path: &ScopePath<'_, 't>,
+        relation: &'t Relation,
+    ) -> Result<(), AllocError>
+        ensures { (place : Place) → OnOk result (Adds self.old self.new
+            (kind_naming (frame_view frame) path.now place (relation_tree relation.now))) }
+    {
+        self.both(frame, path, &relation.left, &relation.right)
+    }
+
+    /// Resolves an assignment.
+    #[cycle(phrases)]
+    fn assignment<'t>(
+        &mut self,
+        frame: Frame,
+        path: &ScopePath<'_, 't>,
+        assignment: &'t Assignment,
+    ) -> Result<(), AllocError>
+        ensures { (place : Place) → OnOk result (Adds self.old self.new
+            (kind_naming (frame_view frame) path.now place (assignment_tree assignment.now))) }
+    {
+        self.both(frame, path, &assignment.target, &assignment.value)
+    }
+
+    /// Resolves a WHILE.
+    #[cycle(phrases)]
+    fn repetition<'t>(
+        &mut self,
+        frame: Frame,
+        path: &ScopePath<'_, 't>,
+        repetition: &'t Repetition,
+    ) -> Result<(), AllocError>
+        ensures { (place : Place) → OnOk result (Adds self.old self.new
+            (kind_naming (frame_view frame) path.now place (repetition_tree repetition.now))) }
+    {
+        self.both(frame, path, &repetition.condition, &repetition.body)
     }
 
     /// Resolves a chain.

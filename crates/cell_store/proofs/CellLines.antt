@@ -1,5 +1,5 @@
 -- Cells in line: their words, and what stands beside.
-use Rattle.std.proofs.Common.{◌≡◌, ℕ, zero, suc, ◌<◌, ◌≤◌, true, false, List, [], ◌∷◌, ◌++◌, length, take, Option, Some, None, get_or, refl, sym, ap, ◌∙◌, subst, arith}
+use Rattle.std.proofs.Common.{◌≡◌, ℕ, zero, suc, ◌<◌, true, false, List, [], ◌∷◌, ◌++◌, length, take, Option, Some, None, get_or, refl, sym, ap, ◌∙◌, subst, arith}
 use Rattle.std.specs.Prelude.{slice_get, slice_set, is_none, if◌then◌else◌, IfSome}
 use Rattle.std.specs.Option.{option_and_then}
 use Rattle.std.proofs.lemmas.List.{length-set}
@@ -7,7 +7,7 @@ use Rattle.cell_store.specs.declared.cells.Word as flat
 use Rattle.cell_store.specs.declared.cells.Word.TheVariants as kind
 use Rattle.cell_store.specs.declared.cells.Wide.{Wide}
 use Rattle.cell_store.specs.declared.cells.Wide.TheVariants as wide
-use Rattle.cell_store.specs.Cells.{Cell, Shelf, a_word, a_wide, word_in, wide_in, text_over}
+use Rattle.cell_store.specs.Cells.{Cell, Shelf, a_wide, word_in, wide_in, text_over}
 use Rattle.cell_store.specs.Words.{Word, word_of, is_wide}
 use Rattle.cell_store.specs.Held.{beside_at, held_by, held, word_cell, cells, AreBeside}
 

@@ -1,5 +1,5 @@
 -- Scopes that are passed over along a path.
-use Rattle.std.proofs.Common.{◌≡◌, ℕ, ◌<◌, List, Option, Some, None, length, get_or, sym, ap, ◌∙◌}
+use Rattle.std.proofs.Common.{◌≡◌, ℕ, ◌<◌, List, Option, Some, None, get_or, sym, ap, ◌∙◌}
 use denote.Ref.{Bor}
 use Rattle.algolw_typing.specs.Names.{Scope, declared, in_scope}
 use Rattle.algolw_typing.specs.Scopes.{Known, Scopes}

@@ -1,5 +1,5 @@
 -- The scopes that linked scopes are.
-use Rattle.std.specs.Prelude.{List, [], ◌∷◌, Option, Some, None, length}
+use Rattle.std.specs.Prelude.{List, ◌∷◌, Option, Some, None, length}
 use denote.Ref.{Bor}
 use Rattle.algolw_typing.specs.Names.{Scope}
 use Rattle.algolw_typing.specs.Scopes.{Known, Scopes}

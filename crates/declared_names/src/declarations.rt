@@ -103,7 +103,7 @@ fn class_set<'a>(
             classes.push(known.place)?;
         }
     }
-    Ok(ClassSet::new(classes))
+    ClassSet::new(arena, classes)
 }
 
 /// The type that is written.

@@ -1,5 +1,5 @@
 -- Calls of declared procedures.
-use Rattle.std.proofs.Common.{◌≡◌, ℕ, Option, Some, None, length, refl, sym, ap, ◌∙◌, subst}
+use Rattle.std.proofs.Common.{◌≡◌, ℕ, Option, Some, None, refl, ap, ◌∙◌, subst}
 use Rattle.value_ops.specs.declared.places.Place.{Place}
 use Rattle.name_thunks.specs.Links.{outwards}
 use Rattle.stack_code.specs.declared.instructions.Instr.TheVariants as instr

@@ -1,7 +1,7 @@
 -- Calls of procedures.
-use Rattle.std.proofs.Common.{◌≡◌, ℕ, zero, suc, ◌+◌, ◌-◌, ◌<◌, ◌≤◌, List, [], ◌∷◌, ◌++◌, Option, Some, None, Bool, true, false, nat_lt, length, map, reverse, refl, sym, ap, ◌∙◌, subst, arith}
+use Rattle.std.proofs.Common.{◌≡◌, ℕ, suc, ◌+◌, ◌-◌, ◌<◌, ◌≤◌, List, [], ◌∷◌, ◌++◌, Option, Some, None, true, false, nat_lt, length, map, reverse, refl, sym, ap, ◌∙◌, subst, arith}
 use mathlib.Core.List.{reverse_aux}
-use Rattle.std.specs.Prelude.{Result, Ok, Err}
+use Rattle.std.specs.Prelude.{Ok, Err}
 use Rattle.std.specs.List.{All}
 use Rattle.std.specs.Option.{option_map}
 use Rattle.std.proofs.lemmas.Bool.Decides.{nat_tests}
@@ -11,7 +11,6 @@ use Rattle.value_ops.specs.declared.faults.Limit.{Limit}
 use Rattle.value_ops.specs.declared.faults.Limit.TheVariants as limit
 use Rattle.value_ops.specs.declared.places.Place.{Place}
 use Rattle.cell_store.specs.declared.cells.Procedure.{Procedure}
-use Rattle.cell_store.specs.declared.entries.Entry as store
 use Rattle.cell_store.specs.declared.entries.Entry.TheVariants as entry
 use Rattle.cell_store.specs.declared.entries.Frame as store_frame
 use Rattle.cell_store.specs.declared.entries.Purpose.TheVariants as purpose
@@ -20,10 +19,10 @@ use Rattle.cell_store.specs.Stores.{Store, entered, has_room, text_allowed}
 use Rattle.program_meaning.specs.State.{by_limit, for_value}
 use Rattle.stack_code.specs.declared.heads.Formal.{Formal}
 use Rattle.stack_code.specs.declared.heads.ProcedureHead.{ProcedureHead}
-use Rattle.stack_code.specs.CodeView.{Given, formal_view, procedure_view, instructions_view}
+use Rattle.stack_code.specs.CodeView.{formal_view, procedure_view}
 use Rattle.stack_code.specs.Limits.{ProcedureRuns, FormalRuns}
-use Rattle.stack_code.specs.Machine.{Machine, Frame, Entry, a_call}
-use Rattle.stack_code.specs.Doing.{Next, on, halted, Row, ◌>>◌, ◌>>=◌, there, deeper, here, cells_now, open_frame, enter, frame_for, run_newest, go_to, most_entries, after}
+use Rattle.stack_code.specs.Machine.{Machine, Frame, a_call}
+use Rattle.stack_code.specs.Doing.{Next, on, halted, Row, ◌>>◌, ◌>>=◌, there, deeper, here, cells_now, open_frame, enter, frame_for, run_newest, go_to, most_entries}
 use Rattle.stack_code.specs.Table as table
 use Rattle.stack_code.specs.Table.{enter_formals}
 use Rattle.machine_rows.specs.declared.held.Halt.{Halt}
@@ -39,7 +38,7 @@ use Rattle.machine_calls.proofs.Heads.{procedure_found}
 use Rattle.machine_calls.proofs.Rows.{HasRoom, text_more, one_deeper, deeper_on, deeper_off, tick_on, tick_off}
 use Rattle.machine_calls.proofs.Standing.{Fits, restored, entered_fits, store_fits}
 use Rattle.machine_calls.proofs.Entering.{cells_count, entries_count}
-use Rattle.machine_calls.proofs.Formals.{AreEntered, formals_entered, with_formals, on_top, entries_fit}
+use Rattle.machine_calls.proofs.Formals.{AreEntered, formals_entered, on_top, entries_fit}
 use Rattle.machine_calls.proofs.Using.{counted_frame, counted_row, counted_room, counted_is, counted_machine, room_there, allowed_below, limited_over, refused_below}
 use Rattle.machine_calls.proofs.Thunks.{ticked}
 use Rattle.machine_calls.proofs.Uses.{step_answer, stopped, went, ticked_stands}

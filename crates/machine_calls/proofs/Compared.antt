@@ -1,5 +1,5 @@
 -- Calls that compare.
-use Rattle.std.proofs.Common.{◌≡◌, ℕ, suc, ◌+◌, ◌<◌, List, [], ◌∷◌, Option, Some, None, Bool, true, false, length, map, ◌≢◌, refl, sym, ap, ◌∙◌, subst}
+use Rattle.std.proofs.Common.{◌≡◌, ℕ, ◌+◌, ◌<◌, List, [], ◌∷◌, Option, Some, None, Bool, true, false, length, ◌≢◌, refl, sym, ap, ◌∙◌, subst}
 use Rattle.std.specs.Option.{option_map, option_and_then}
 use Rattle.std.specs.Prelude.{slice_index_or, IfSome}
 use Rattle.value_ops.specs.declared.faults.Fault.TheVariants as fault
@@ -11,13 +11,12 @@ use Rattle.cell_store.specs.declared.cells.Wide.{Wide}
 use Rattle.cell_store.specs.Words as word
 use Rattle.cell_store.specs.declared.cells.Wide.TheVariants as wide
 use Rattle.cell_store.specs.Cells.{Cell, a_word, a_wide, wide_in}
-use Rattle.program_meaning.specs.State.{by_fault, for_value}
+use Rattle.program_meaning.specs.State.{by_fault}
 use Rattle.stack_code.specs.declared.heads.ComparedCall.{ComparedCall}
-use Rattle.stack_code.specs.declared.heads.Formal.{Formal}
 use Rattle.stack_code.specs.declared.heads.ProcedureHead.{ProcedureHead}
 use Rattle.stack_code.specs.declared.instructions.Source.{Source}
 use Rattle.stack_code.specs.declared.instructions.Instr.TheVariants as instr
-use Rattle.stack_code.specs.CodeView.{CallView, call_view, call_of, Added, code_view, statement_view, instructions_view, source_view, procedure_view, formal_view}
+use Rattle.stack_code.specs.CodeView.{CallView, call_view, call_of, Added, code_view, statement_view, instructions_view, source_view, procedure_view}
 use Rattle.stack_code.specs.Machine.{Machine}
 use Rattle.stack_code.specs.Doing.{Next, on, halted, Row, after, there, give, test, fault_now, source_out, go_on, ◌>>=◌, ◌>>◌}
 use Rattle.stack_code.specs.Table as table
@@ -25,7 +24,7 @@ use Rattle.cell_store.specs.declared.entries.Purpose.TheVariants as purpose
 use Rattle.machine_rows.specs.declared.held.Halt.TheVariants as halt
 use Rattle.cell_store.specs.declared.cells.Word.{Word as Held}
 use Rattle.machine_rows.specs.declared.state.State.{State}
-use Rattle.machine_rows.specs.Seen.{Seen, Stands, IsClear, machine_of, row_of, content_of, closure_of, thunk_of}
+use Rattle.machine_rows.specs.Seen.{Seen, Stands, IsClear, machine_of, row_of, content_of, thunk_of}
 use Rattle.machine_calls.specs.declared.next.Next as next
 use Rattle.machine_calls.specs.declared.next.Next.TheVariants as comes
 use Rattle.machine_calls.specs.Rows.{Goes}

@@ -1,9 +1,9 @@
 -- The names of formals in scope.
-use Rattle.std.proofs.Common.{◌≡◌, ℕ, zero, suc, ◌+◌, ◌-◌, ◌<◌, ◌≤◌, List, [], ◌∷◌, ◌++◌, Bool, true, false, nat_lt, length, map, take, get_or, append_assoc, refl, sym, ap, ◌∙◌, subst, arith}
-use mathlib.Core.List.{reverse, reverse_aux}
+use Rattle.std.proofs.Common.{◌≡◌, ℕ, suc, ◌+◌, ◌<◌, ◌≤◌, List, [], ◌∷◌, ◌++◌, true, nat_lt, length, map, take, get_or, append_assoc, refl, sym, ap, ◌∙◌, subst, arith}
+use mathlib.Core.List.{reverse_aux}
 use Rattle.std.specs.List.{All}
 use Rattle.std.proofs.lemmas.Bool.Decides.{nat_tests}
-use Rattle.std.proofs.lemmas.List.{map-append, take_more, length-take-le}
+use Rattle.std.proofs.lemmas.List.{take_more, length-take-le}
 use Rattle.std.proofs.lemmas.List.Elements.{All-nil, All-cons, All-head, All-tail}
 use Rattle.cell_store.specs.declared.entries.Entry as store
 use Rattle.stack_code.specs.declared.heads.Formal.{Formal}
@@ -12,7 +12,7 @@ use Rattle.stack_code.specs.declared.heads.FormalType.TheVariants as formal
 use Rattle.stack_code.specs.CodeView.{Given, formal_view, formal_type_view, text_view}
 use Rattle.stack_code.specs.Limits.{FormalRuns}
 use Rattle.stack_code.specs.Machine.{Machine, Entry}
-use Rattle.stack_code.specs.Doing.{Next, on, halted, Row, after, ◌>>◌, enter, most_entries}
+use Rattle.stack_code.specs.Doing.{Row, ◌>>◌, enter, most_entries}
 use Rattle.stack_code.specs.Table.{enter_formals, name_of}
 use Rattle.machine_rows.specs.Seen.{IsClear, EntryFits, entry_of}
 use Rattle.machine_calls.specs.Found.{entry_by, formal_entry, formal_entries}

@@ -1,6 +1,6 @@
 -- What stands for a name that stands alone is handed on.
 use Rattle.std.proofs.Common.{◌≡◌, ℕ, ◌+◌, ◌<◌, ◌⊎◌, inl, inr, Option, Some, None, List, length, refl, sym, ap, ◌∙◌, subst, arith}
-use Rattle.std.specs.Prelude.{slice_get, Result, Ok, IsSome}
+use Rattle.std.specs.Prelude.{Ok, IsSome}
 use Rattle.std.specs.Option.{option_map, option_and_then}
 use Rattle.cell_store.specs.Words as word
 use Rattle.cell_store.specs.declared.cells.Wide.{Wide}
@@ -16,7 +16,7 @@ use Rattle.stack_code.specs.declared.heads.FormalType.TheVariants as formal
 use Rattle.value_ops.specs.declared.values.SimpleType.{SimpleType}
 use Rattle.stack_code.specs.CodeView.{Given, source_view, formal_type_view}
 use Rattle.stack_code.specs.Machine.{Machine, Content}
-use Rattle.stack_code.specs.Doing.{Next, on, Row, after, there, source_out, hold, here, go_to, go_on, ◌>>=◌, ◌>>◌}
+use Rattle.stack_code.specs.Doing.{Next, Row, after, there, source_out, hold, go_on, ◌>>=◌, ◌>>◌}
 use Rattle.stack_code.specs.Table as table
 use Rattle.cell_store.specs.declared.cells.Word.{Word as Held}
 use Rattle.cell_store.specs.declared.cells.Word.TheVariants as held

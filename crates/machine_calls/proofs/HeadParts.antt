@@ -1,5 +1,5 @@
 -- What a procedure's name alone is for a formal.
-use Rattle.std.proofs.Common.{◌≡◌, ℕ, Option, Some, None, Bool, false, List, [], ◌∷◌, length, map, ◌≢◌, refl, sym, ap, ◌∙◌}
+use Rattle.std.proofs.Common.{◌≡◌, Option, Some, None, false, List, [], ◌∷◌, length, map, ◌≢◌, refl, sym, ap, ◌∙◌}
 use Rattle.value_ops.specs.declared.values.SimpleType.{SimpleType}
 use Rattle.algolw_typing.specs.Types.{ValueType}
 use Rattle.algolw_typing.specs.Actuals.{procedure_name}

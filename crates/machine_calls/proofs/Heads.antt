@@ -1,7 +1,6 @@
 -- Heads are found in code in memory as the table finds them.
 use Rattle.std.proofs.Common.{◌≡◌, ℕ, zero, suc, ◌<◌, ◌≤◌, List, [], ◌∷◌, Option, Some, None, length, map, refl, sym, ap, ◌∙◌, subst, arith}
 use Rattle.std.specs.Prelude.{slice_get, slice_index_or}
-use Rattle.std.specs.List.{All}
 use Rattle.std.specs.Option.{option_map, option_and_then}
 use Rattle.std.proofs.lemmas.Option.{slice_get-map, slice_get_within, slice_get_past, slice_get-get_or, get_or_from_slice_get}
 use Rattle.stack_code.specs.declared.heads.ProcedureHead.{ProcedureHead}
@@ -9,7 +8,7 @@ use Rattle.stack_code.specs.declared.heads.TextHead.{TextHead}
 use Rattle.stack_code.specs.declared.instructions.Coded.{Coded}
 use Rattle.stack_code.specs.declared.instructions.Instr.{Instr}
 use Rattle.stack_code.specs.declared.instructions.Instr.TheVariants as instr
-use Rattle.stack_code.specs.CodeView.{CodeView, Given, Added, instructions_view, coded_view, instr_view, procedure_view, text_head_view}
+use Rattle.stack_code.specs.CodeView.{CodeView, instructions_view, coded_view, instr_view, procedure_view, text_head_view}
 use Rattle.stack_code.specs.Limits.{CodeRuns, InstrRuns}
 use Rattle.stack_code.specs.Code as code
 use Rattle.machine_calls.specs.Found.{procedure_number, text_number, procedure_at, text_at}

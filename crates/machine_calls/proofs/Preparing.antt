@@ -1,5 +1,5 @@
 -- Actuals of a call that are prepared; calls of what stands for a name; places of actuals.
-use Rattle.std.proofs.Common.{◌≡◌, ℕ, ◌+◌, ◌-◌, Option, Some, None, List, [], ◌∷◌, length, map, reverse, ◌≢◌, ◌⊎◌, inl, inr, refl, sym, ap, ◌∙◌, subst, arith}
+use Rattle.std.proofs.Common.{◌≡◌, ℕ, ◌+◌, ◌-◌, Option, Some, None, [], length, reverse, ◌≢◌, ◌⊎◌, inl, inr, refl, sym, ap, ◌∙◌, subst, arith}
 use Rattle.std.specs.Prelude.{slice_get, slice_index_or, IsSome}
 use Rattle.std.specs.Option.{option_map, option_and_then}
 use Rattle.std.proofs.lemmas.Option.{slice_get-map, slice_get_within}
@@ -14,13 +14,12 @@ use Rattle.stack_code.specs.declared.heads.ProcedureHead.{ProcedureHead}
 use Rattle.stack_code.specs.declared.heads.TextHead.{TextHead}
 use Rattle.stack_code.specs.declared.heads.Reading.{Reading}
 use Rattle.stack_code.specs.declared.instructions.Instr.TheVariants as instr
-use Rattle.stack_code.specs.declared.instructions.Source.{Source}
 use Rattle.stack_code.specs.declared.heads.FormalType.{FormalType}
 use Rattle.stack_code.specs.declared.heads.FormalType.TheVariants as formal
 use Rattle.value_ops.specs.declared.values.SimpleType.{SimpleType}
 use Rattle.program_meaning.specs.State.{for_place}
-use Rattle.stack_code.specs.CodeView.{CodeView, CallView, call_view, call_of, code_view, statement_view, instructions_view, source_view, procedure_view, text_head_view, formal_view, formal_type_view, reading_view}
-use Rattle.stack_code.specs.Code.{procedure_head, text_head}
+use Rattle.stack_code.specs.CodeView.{CodeView, CallView, call_view, call_of, code_view, instructions_view, source_view, procedure_view, text_head_view, formal_view, formal_type_view, reading_view}
+use Rattle.stack_code.specs.Code.{procedure_head}
 use Rattle.stack_code.specs.Machine.{Machine, Closure, Frame}
 use Rattle.stack_code.specs.Instr as table_instr
 use Rattle.stack_code.specs.Doing.{Next, on, ended, halted, Row, after, there, source_out, closure_in, newest, ◌>>=◌}

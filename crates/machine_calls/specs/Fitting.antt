@@ -1,5 +1,5 @@
 -- Actuals against formals, as memory has them.
-use Rattle.std.specs.Prelude.{ℕ, List, [], ◌∷◌, map, length, Option, Some, None, Bool, false, ◌&&◌}
+use Rattle.std.specs.Prelude.{ℕ, List, [], ◌∷◌, map, Option, Some, None, Bool, false, ◌&&◌}
 use Rattle.std.specs.Option.{option_map, option_and_then}
 use Rattle.value_ops.specs.declared.places.Place.{Place}
 use Rattle.cell_store.specs.Stores.{Store}

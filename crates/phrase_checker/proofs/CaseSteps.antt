@@ -9,7 +9,6 @@ use Rattle.algolw_tree.specs.Grammar.{phrases_of}
 use Rattle.algolw_tree.specs.View.{part_tree}
 use Rattle.algolw_typing.specs.Scopes.{Scopes}
 use Rattle.algolw_typing.specs.Typing.{Out, PhrasesOut, case_do_out, faults, no_outs, typed_phrase, typed_phrases}
-use Rattle.typing_rules.specs.View as view
 use Rattle.typed_drafts.specs.DraftView.{part_view}
 use Rattle.typed_drafts.specs.Onto.{nodes_onto}
 use Rattle.typed_phrases.specs.Cases.{both_give, together}

@@ -1,16 +1,12 @@
 -- What is found of a FOR.
 use Rattle.std.proofs.Common.{◌≡◌, ℕ, List, ◌∷◌, ◌++◌, Option, Some, None, Result, IfOk, refl, ap, ◌∙◌, append_assoc}
 use Rattle.std.proofs.lemmas.Result.{IfOk-weaker}
-use Rattle.value_ops.specs.declared.places.Diagnostic.{Diagnostic}
 use Rattle.value_ops.specs.declared.places.Place.{Place}
 use Rattle.algolw_tree.specs.Tree as tree
 use Rattle.algolw_typing.specs.Scopes.{Scopes, control_scope}
-use Rattle.algolw_typing.specs.Types.{Gives}
-use Rattle.algolw_typing.specs.Typed as typed
 use Rattle.algolw_typing.specs.Typing.{Out, PhrasesOut, faults, for_until_out, for_step_out, for_list_out, typed_kind, typed_phrase}
 use Rattle.phrase_checker.specs.Checked.{Checked, Noted, PhrasesChecked, RangeChecked, StepChecked}
 use Rattle.typed_phrases.specs.Found.{Finds, found_view}
-use Rattle.typed_phrases.specs.FoundParts.{phrases_view}
 use Rattle.typed_phrases.specs.Ranges.{for_range_out}
 use Rattle.typed_phrases.specs.declared.statements.Range.{Range}
 use Rattle.phrase_checker.specs.declared.checker.Checker.{Checker}
@@ -47,14 +43,9 @@ pub range_checked : {E : Type 0} (r : Result Typed E) (path : Scopes) (p f : Pla
 range_checked r path p f x s0 s3 s4 range tc a s b c hr hc h =
     by_step r path p f x s0 hr.behind_start hr.behind_step s3 s4 range.start range.step range.limit tc a s b c hr.start hr.step hr.limit hc h
 
-abbrev at_outs : List Diagnostic → List (Option Gives) → typed.Nodes → PhrasesOut
-at_outs inside gs ns = record { inside = inside; gives = gs; nodes = ns }
-
-list_found : (p f : Place) (s0 s1 s2 : Checker) (fs : Phrases) (tb t : Typed) (os : PhrasesOut) (b : Out) → PhrasesChecked s0 s1 fs os → Noted s1 s2 tb b → Finds t (for_list_out p f (phrases_view fs) (found_view tb)) → Checked s0 s2 t (for_list_out p f os b)
+list_found : (p f : Place) (s0 s1 s2 : Checker) (fs : Phrases) (tb t : Typed) (os : PhrasesOut) (b : Out) → PhrasesChecked s0 s1 fs os → Noted s1 s2 tb b → Finds t (for_list_out p f os (found_view tb)) → Checked s0 s2 t (for_list_out p f os b)
 list_found p f s0 s1 s2 fs tb t os b hs hb h =
-    let outs : at_outs os.inside (phrases_view fs).gives (phrases_view fs).nodes ≡ os = ap (λ gs. at_outs os.inside gs (phrases_view fs).nodes) hs.gives ∙ ap (at_outs os.inside os.gives) hs.nodes in
-    let whole : for_list_out p f (at_outs os.inside (phrases_view fs).gives (phrases_view fs).nodes) (seen b tb) ≡ for_list_out p f os b =
-    ap (λ (x : PhrasesOut). for_list_out p f x (seen b tb)) outs ∙ ap (for_list_out p f os) (seen_is s1 s2 tb b hb) in
+    let whole : for_list_out p f os (seen b tb) ≡ for_list_out p f os b = ap (for_list_out p f os) (seen_is s1 s2 tb b hb) in
     record {
       faults = hb.faults ∙ ap (λ xs. xs ++ faults b) hs.faults ∙ append_assoc s0.faults.items os.inside (faults b);
       verdict = h.verdict ∙ ap (λ (o : Out). o.verdict) whole;
@@ -62,6 +53,6 @@ list_found p f s0 s1 s2 fs tb t os b hs hb h =
     }
 
 pub list_checked : {E : Type 0} (r : Result Typed E) (p f : Place) (s0 s1 s2 : Checker) (fs : Phrases) (tb : Typed) (os : PhrasesOut) (b : Out) → PhrasesChecked s0 s1 fs os → Noted s1 s2 tb b
-    → IfOk r (λ t. Finds t (for_list_out p f (phrases_view fs) (found_view tb))) → IsChecked r s0 s2 (for_list_out p f os b)
+    → IfOk r (λ t. Finds t (for_list_out p f os (found_view tb))) → IsChecked r s0 s2 (for_list_out p f os b)
 list_checked r p f s0 s1 s2 fs tb os b hs hb h =
-    IfOk-weaker r (λ (t : Typed). Finds t (for_list_out p f (phrases_view fs) (found_view tb))) (λ (t : Typed). Checked s0 s2 t (for_list_out p f os b)) (λ t g. list_found p f s0 s1 s2 fs tb t os b hs hb g) h
+    IfOk-weaker r (λ (t : Typed). Finds t (for_list_out p f os (found_view tb))) (λ (t : Typed). Checked s0 s2 t (for_list_out p f os b)) (λ t g. list_found p f s0 s1 s2 fs tb t os b hs hb g) h

@@ -23,7 +23,7 @@ use Rattle.typed_drafts.specs.Onto.{lists_onto, actuals_onto}
 use Rattle.phrase_checker.specs.Checked.{Checked, ListChecked, ActualChecked, PartsChecked}
 use Rattle.typed_phrases.specs.Found.{Finds, found_view}
 use Rattle.typed_phrases.specs.Fronts.{Front, a_name, complete, front_reading, front_alone, front_list, front_lists, ListOut, list_step, list_then, ActualOut, actual_step, actual_then}
-use Rattle.typed_phrases.specs.FrontViews.{front_view, given_out, lists_view, parts_view}
+use Rattle.typed_phrases.specs.FrontViews.{applied_view, front_view, given_out, lists_view, parts_view}
 use Rattle.phrase_checker.specs.declared.checker.Checker.{Checker}
 use Rattle.typed_phrases.specs.declared.actuals.Given.{Given}
 use Rattle.typed_phrases.specs.declared.actuals.Parts.{Parts}
@@ -32,6 +32,9 @@ use Rattle.typed_phrases.specs.declared.designators.Lists.{Lists}
 use Rattle.phrase_checker.proofs.Givens.{bare, Behind, given_bare}
 use Rattle.phrase_checker.proofs.Steps.{at_out}
 use Rattle.declared_names.proofs.Placing.{next}
+use Rattle.declared_names.specs.KnownView.{entry_of}
+use Rattle.declared_names.specs.declared.known.Known as code_known
+use Rattle.std.specs.Option.{option_map}
 use Rattle.phrase_checker.proofs.Turns.{SoFar, turn, lists_put, actuals_put}
 
 -- ---- the lists behind a name
@@ -139,4 +142,26 @@ named_found path p f n xs i a b e found t past is h found_is =
       faults = sym (append-nil b.faults.items) ∙ sym (h.lists.faults ∙ ap (λ (o : ListsOut). b.faults.items ++ o.inside) last);
       verdict = found_is.verdict ∙ verdict_is;
       node = found_is.node ∙ ap (λ (d : Option (Entry Known)). at_name p f (target d) v (lists_view n found).lists) is ∙ ap (λ (u : Verdict). at_name p f (target (declared path n)) u (lists_view n found).lists) verdict_is ∙ ap (at_name p f (target (declared path n)) whole.verdict) lists_are;
+    }
+
+-- ---- a name with one list of actuals behind it
+
+pub applied_found : (path : Scopes) (p f : Place) (n : List ℕ) (q : Place) (xs ys : List Actual) (known : Option code_known.Known) (a b : Checker) (found : Parts) (t : Typed) → option_map (entry_of n) known ≡ declared path n
+    → xs ≡ ys → PartsChecked a b found (typed_parts path (front_reading (a_name p (option_map (entry_of n) known))) (actuals_of (map actual_tree xs)))
+    → Finds t (named_out p f (option_map (entry_of n) known) (applied_view n p known q found)) → Checked a b t (typed_kind path p f (tree.Named n (tree.list_and (tree.OfActuals q (actuals_of (map actual_tree ys))) tree.no_lists)))
+applied_found path p f n q xs ys known a b found t is same h found_is =
+    let e : Option (Entry Known) = option_map (entry_of n) known in
+    let g : PartsChecked a b found (typed_parts path (front_reading (a_name p (declared path n))) (actuals_of (map actual_tree ys))) =
+    subst (λ (d : Option (Entry Known)). PartsChecked a b found (typed_parts path (front_reading (a_name p d)) (actuals_of (map actual_tree ys)))) is
+    (subst (λ (zs : List Actual). PartsChecked a b found (typed_parts path (front_reading (a_name p e)) (actuals_of (map actual_tree zs)))) same h) in
+    let v : List Part → Verdict = λ ps. front_list q (a_name p (declared path n)) ps in
+    let verdict_is : front_list q (a_name p e) (parts_view found).parts ≡ v (typed_parts path (front_reading (a_name p (declared path n))) (actuals_of (map actual_tree ys))).parts =
+    ap (λ (d : Option (Entry Known)). front_list q (a_name p d) (parts_view found).parts) is ∙ ap v g.parts in
+    let lists : typed.Actuals → typed.Lists = λ as_. typed.list_and (typed.OfActuals q as_) typed.no_lists in
+    record {
+      faults = g.faults ∙ ap (λ (fs : List Diagnostic). a.faults.items ++ fs) (sym (append-nil _));
+      verdict = found_is.verdict ∙ verdict_is;
+      node = found_is.node ∙ ap (λ (d : Option (Entry Known)). at_name p f (target d) (front_list q (a_name p e) (parts_view found).parts) (lists (parts_view found).actuals)) is
+          ∙ ap (λ (u : Verdict). at_name p f (target (declared path n)) u (lists (parts_view found).actuals)) verdict_is
+          ∙ ap (λ (as_ : typed.Actuals). at_name p f (target (declared path n)) (v (typed_parts path (front_reading (a_name p (declared path n))) (actuals_of (map actual_tree ys))).parts) (lists as_)) g.actuals;
     }

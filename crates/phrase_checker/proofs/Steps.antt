@@ -1,5 +1,6 @@
 -- The checker's steps: what is found of a phrase of one kind, and the turns of its loops.
-use Rattle.std.proofs.Common.{◌≡◌, ℕ, ◌+◌, ◌<◌, List, [], ◌∷◌, ◌++◌, Option, Some, Result, IfOk, length, get_or, drop, map, refl, sym, ap, subst, ◌∙◌, append_assoc}
+use Rattle.std.proofs.Common.{◌≡◌, ℕ, ◌+◌, ◌<◌, ◌≤◌, List, [], ◌∷◌, ◌++◌, Option, Some, Result, IfOk, length, get_or, drop, map, refl, sym, ap, subst, ◌∙◌, append_assoc, append-nil}
+use Rattle.std.proofs.lemmas.List.{drop_all}
 use Rattle.std.proofs.lemmas.Result.{IfOk-weaker}
 use Rattle.std.specs.declared.boxed.Box.{Box}
 use Rattle.std.specs.declared.alloc.Global.{Global}
@@ -13,7 +14,7 @@ use Rattle.algolw_tree.specs.View.{tree, link_tree}
 use Rattle.algolw_typing.specs.Rows.{link_row}
 use Rattle.algolw_typing.specs.Scopes.{Scopes}
 use Rattle.algolw_typing.specs.Typed as typed
-use Rattle.algolw_typing.specs.Typing.{Out, PhrasesOut, LinksOut, faults, onward, link_verdict, link_out, if_else_out, negated_out, absolute_out, signed_out, assert_out, typed_phrase, typed_kind, typed_phrases, typed_links}
+use Rattle.algolw_typing.specs.Typing.{Out, PhrasesOut, LinksOut, case_value_out, faults, no_outs, onward, link_verdict, link_out, if_else_out, negated_out, absolute_out, signed_out, assert_out, typed_phrase, typed_kind, typed_phrases, typed_links}
 use Rattle.algolw_typing.specs.Verdicts.{Verdict, part, type_of}
 use Rattle.typing_rules.specs.View as view
 use Rattle.phrase_checker.specs.declared.checker.Checker.{Checker}
@@ -22,14 +23,17 @@ use Rattle.typed_phrases.specs.declared.making.Phrases.{Phrases}
 use Rattle.typed_phrases.specs.declared.making.Links.{Links}
 use Rattle.typed_drafts.specs.DraftView.{draft_view, link_view}
 use Rattle.typed_phrases.specs.Found.{Finds, found_view}
-use Rattle.typed_phrases.specs.FoundParts.{given_view}
+use Rattle.typed_phrases.specs.FoundParts.{all_view, with_one_more}
+use Rattle.typed_drafts.specs.DraftParts.{lent_view}
 use Rattle.typed_phrases.specs.Prefixes.{prefixed, prefixed_out}
 use Rattle.typed_phrases.specs.declared.prefixes.Prefix.{Prefix}
 use Rattle.typed_phrases.specs.declared.prefixes.Prefix.TheVariants.{Not, Abs, Sign, Assert}
-use Rattle.phrase_checker.specs.Checked.{Checked, Noted}
+use Rattle.phrase_checker.specs.Checked.{Checked, Noted, PhrasesChecked}
+use Rattle.typed_drafts.specs.Onto.{nodes_onto}
+use Rattle.typed_phrases.proofs.AllParts.{Behind}
 use Rattle.algolw_tree.specs.View.{optional_tree}
 use Rattle.declared_names.proofs.Placing.{next}
-use Rattle.phrase_checker.proofs.Turns.{PhrasesSoFar, LinksSoFar, phrases_turn, links_turn}
+use Rattle.phrase_checker.proofs.Turns.{PhrasesSoFar, LinksSoFar, all_behind, phrases_turn, links_turn}
 
 abbrev pub IsChecked : {E : Type 0} → Result Typed E → Checker → Checker → Out → Type 0
 IsChecked r a b o = IfOk r (λ t. Checked a b t o)
@@ -114,12 +118,40 @@ if_else_checked r path p f s0 s1 s2 s3 tc ta tb c a o b x e e1 hc ha hb h =
     by_kind r s0 s3 path p f _ _ k (IfOk-weaker r (λ (t : Typed). Finds t (if_else_out p f (found_view tc) (found_view ta) (found_view tb))) (λ (t : Typed). Checked s0 s3 t (if_else_out p f (typed_phrase path c) (typed_phrase path a) (typed_phrase path (tree x)))) (λ t g. three_found (if_else_out p f) (λ y z w. refl) s0 s1 s2 s3 tc ta tb t (typed_phrase path c) (typed_phrase path a) (typed_phrase path (tree x)) hc ha hb g) h)
 
 pub phrases_step : (path : Scopes) (whole : PhrasesOut) (start : List Diagnostic) (xs : List Phrase) (i : ℕ) (x : Phrase) (a b : Checker) (old new : Phrases) (t : Typed) → i < length xs → x ≡ get_or xs i x → Noted a b t (typed_phrase path (tree x))
-    → map given_view new.gives.items ≡ map given_view old.gives.items ++ type_of (view.verdict t.verdict) ∷ [] → map draft_view new.drafts.items ≡ map draft_view old.drafts.items ++ draft_view t.draft.now ∷ []
-    → PhrasesSoFar start a.faults.items (map given_view old.gives.items) (map draft_view old.drafts.items) whole (typed_phrases path (phrases_of (map tree (drop i xs))))
-    → PhrasesSoFar start b.faults.items (map given_view new.gives.items) (map draft_view new.drafts.items) whole (typed_phrases path (phrases_of (map tree (drop (i + 1) xs))))
+    → all_view new.gives ≡ with_one_more (all_view old.gives) (type_of (view.verdict t.verdict)) → map lent_view new.drafts.items ≡ map lent_view old.drafts.items ++ draft_view t.draft.now ∷ []
+    → PhrasesSoFar start a.faults.items (all_view old.gives) (map lent_view old.drafts.items) whole (typed_phrases path (phrases_of (map tree (drop i xs))))
+    → PhrasesSoFar start b.faults.items (all_view new.gives) (map lent_view new.drafts.items) whole (typed_phrases path (phrases_of (map tree (drop (i + 1) xs))))
 phrases_step path whole start xs i x a b old new t within is n g d h =
-    phrases_turn start a.faults.items b.faults.items (map given_view old.gives.items) (map given_view new.gives.items) (map draft_view old.drafts.items) (map draft_view new.drafts.items) whole _ (typed_phrases path (phrases_of (map tree (drop (i + 1) xs)))) (typed_phrase path (tree x)) h
-    (ap (λ ys. typed_phrases path (phrases_of (map tree ys))) (next xs i x within is)) n.faults (g ∙ ap (λ v. map given_view old.gives.items ++ type_of v ∷ []) n.verdict) (d ∙ ap (λ y. map draft_view old.drafts.items ++ y ∷ []) n.node)
+    phrases_turn start a.faults.items b.faults.items (all_view old.gives) (all_view new.gives) (map lent_view old.drafts.items) (map lent_view new.drafts.items) whole _ (typed_phrases path (phrases_of (map tree (drop (i + 1) xs)))) (typed_phrase path (tree x)) h
+    (ap (λ ys. typed_phrases path (phrases_of (map tree ys))) (next xs i x within is)) n.faults (g ∙ ap (λ (v : Verdict). with_one_more (all_view old.gives) (type_of v)) n.verdict) (d ∙ ap (λ y. map lent_view old.drafts.items ++ y ∷ []) n.node)
+
+pub phrases_end : (path : Scopes) (xs : List Phrase) (i : ℕ) (a b : Checker) (found : Phrases) → length xs ≤ i
+    → PhrasesSoFar a.faults.items b.faults.items (all_view found.gives) (map lent_view found.drafts.items) (typed_phrases path (phrases_of (map tree xs))) (typed_phrases path (phrases_of (map tree (drop i xs))))
+    → PhrasesChecked a b found (typed_phrases path (phrases_of (map tree xs)))
+phrases_end path xs i a b found past h =
+    let last : typed_phrases path (phrases_of (map tree (drop i xs))) ≡ no_outs = ap (λ ys. typed_phrases path (phrases_of (map tree ys))) (drop_all i xs past) in
+    record {
+      faults = sym (append-nil b.faults.items) ∙ sym (h.faults ∙ ap (λ (o : PhrasesOut). b.faults.items ++ o.inside) last);
+      found = record {
+        gives = λ row. h.gives row ∙ ap (λ (o : PhrasesOut). Behind (all_view found.gives) o.gives row) last ∙ all_behind (all_view found.gives) row;
+        nodes = sym (h.nodes ∙ ap (λ (o : PhrasesOut). nodes_onto (map lent_view found.drafts.items) o.nodes) last);
+      };
+    }
+
+-- a CASE between values
+value_found : (p f : Place) (s0 s1 s2 : Checker) (ts t : Typed) (found : Phrases) (o : Out) (os : PhrasesOut) → Noted s0 s1 ts o → PhrasesChecked s1 s2 found os → Finds t (case_value_out p f (found_view ts) os) → Checked s0 s2 t (case_value_out p f o os)
+value_found p f s0 s1 s2 ts t found o os ho hs h =
+    let whole : case_value_out p f (seen o ts) os ≡ case_value_out p f o os = ap (λ (x : Out). case_value_out p f x os) (seen_is s0 s1 ts o ho) in
+    record {
+      faults = hs.faults ∙ ap (λ xs. xs ++ os.inside) ho.faults ∙ append_assoc s0.faults.items (faults o) os.inside;
+      verdict = h.verdict ∙ ap (λ (x : Out). x.verdict) whole;
+      node = h.node ∙ ap (λ (x : Out). x.node) whole;
+    }
+
+pub value_checked : {E : Type 0} (r : Result Typed E) (p f : Place) (s0 s1 s2 : Checker) (ts : Typed) (found : Phrases) (o : Out) (os : PhrasesOut) → Noted s0 s1 ts o → PhrasesChecked s1 s2 found os
+    → IfOk r (λ t. Finds t (case_value_out p f (found_view ts) os)) → IsChecked r s0 s2 (case_value_out p f o os)
+value_checked r p f s0 s1 s2 ts found o os ho hs h =
+    IfOk-weaker r (λ (t : Typed). Finds t (case_value_out p f (found_view ts) os)) (λ (t : Typed). Checked s0 s2 t (case_value_out p f o os)) (λ t g. value_found p f s0 s1 s2 ts t found o os ho hs g) h
 
 pub links_step : (path : Scopes) (whole : LinksOut) (start : List Diagnostic) (xs : List Link) (i : ℕ) (x : Link) (a b : Checker) (old new : Links) (t : Typed) → i < length xs → x ≡ get_or xs i x → Noted a b t (typed_phrase path (tree x.right))
     → view.verdict new.verdict ≡ onward (view.verdict old.verdict) (λ left. part (type_of (view.verdict t.verdict)) (link_row x.op x.place left)) → map link_view new.drafts.items ≡ map link_view old.drafts.items ++ typed.Linked x.op x.place (draft_view t.draft.now) ∷ []

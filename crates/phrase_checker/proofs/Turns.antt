@@ -1,12 +1,15 @@
 -- The turns of loops over parts, which find the whole part by part.
-use Rattle.std.proofs.Common.{◌≡◌, List, [], ◌∷◌, ◌++◌, Option, Some, None, refl, sym, ap, ◌∙◌, append_assoc}
+use Rattle.std.proofs.Common.{◌≡◌, List, [], ◌∷◌, ◌++◌, Option, Some, None, refl, sym, ap, ◌∙◌, append_assoc, append-nil}
 use Rattle.value_ops.specs.declared.places.Diagnostic.{Diagnostic}
 use Rattle.value_ops.specs.declared.places.Place.{Place}
 use Rattle.algolw_tree.specs.declared.phrases.Op.{Op}
 use Rattle.algolw_typing.specs.Types.{Gives, Statement, Simple}
 use Rattle.algolw_typing.specs.Typed as typed
 use Rattle.algolw_typing.specs.Typing.{Out, PhrasesOut, out_and, faults, gives, LinksOut, link_out}
+use Rattle.algolw_typing.specs.Verdicts.{Verdict, all_parts}
 use Rattle.typed_phrases.specs.Cases.{both_give, together}
+use Rattle.typed_phrases.specs.FoundParts.{by_all, with_one_more}
+use Rattle.typed_phrases.proofs.AllParts.{Behind, one_behind}
 use Rattle.typed_drafts.specs.Onto.{nodes_onto, links_onto, lists_onto, actuals_onto, items_onto, bounds_onto, decls_onto}
 
 pub nodes_more : (xs : List typed.Node) (x : typed.Node) (rest : typed.Nodes) → nodes_onto (xs ++ x ∷ []) rest ≡ nodes_onto xs (typed.node_and x rest)
@@ -18,9 +21,9 @@ links_more [] x rest = refl
 links_more (y ∷ xs) x rest = ap (typed.link_and y) (links_more xs x rest)
 
 -- what is found so far, and the rest: together they are the whole
-pub record PhrasesSoFar (start now : List Diagnostic) (gs : List (Option Gives)) (ns : List typed.Node) (whole rest : PhrasesOut) : Type 0 where
+pub record PhrasesSoFar (start now : List Diagnostic) (gs : Option (List Gives)) (ns : List typed.Node) (whole rest : PhrasesOut) : Type 0 where
   pub faults : start ++ whole.inside ≡ now ++ rest.inside
-  pub gives : whole.gives ≡ gs ++ rest.gives
+  pub gives : (row : List Gives → Verdict) → all_parts whole.gives row ≡ Behind gs rest.gives row
   pub nodes : whole.nodes ≡ nodes_onto ns rest.nodes
 
 -- the same of the statements of a CASE, of which is kept what they give together
@@ -34,11 +37,11 @@ pub record LinksSoFar (start now : List Diagnostic) (ls : List typed.Link) (whol
   pub verdict : whole.verdict ≡ rest.verdict
   pub links : whole.links ≡ links_onto ls rest.links
 
-pub phrases_turn : (start now later : List Diagnostic) (gs gs' : List (Option Gives)) (ns ns' : List typed.Node) (whole rest rest' : PhrasesOut) (o : Out) → PhrasesSoFar start now gs ns whole rest → rest ≡ out_and o rest' → later ≡ now ++ faults o → gs' ≡ gs ++ gives o ∷ [] → ns' ≡ ns ++ o.node ∷ []
+pub phrases_turn : (start now later : List Diagnostic) (gs gs' : Option (List Gives)) (ns ns' : List typed.Node) (whole rest rest' : PhrasesOut) (o : Out) → PhrasesSoFar start now gs ns whole rest → rest ≡ out_and o rest' → later ≡ now ++ faults o → gs' ≡ with_one_more gs (gives o) → ns' ≡ ns ++ o.node ∷ []
     → PhrasesSoFar start later gs' ns' whole rest'
 phrases_turn start now later gs gs' ns ns' whole rest rest' o h e f g n = record {
   faults = h.faults ∙ ap (λ (r : PhrasesOut). now ++ r.inside) e ∙ sym (append_assoc now (faults o) rest'.inside) ∙ ap (λ xs. xs ++ rest'.inside) (sym f);
-  gives = h.gives ∙ ap (λ (r : PhrasesOut). gs ++ r.gives) e ∙ sym (append_assoc gs (gives o ∷ []) rest'.gives) ∙ ap (λ xs. xs ++ rest'.gives) (sym g);
+  gives = λ row. h.gives row ∙ ap (λ (r : PhrasesOut). Behind gs r.gives row) e ∙ one_behind gs (gives o) rest'.gives row ∙ ap (λ (x : Option (List Gives)). Behind x rest'.gives row) (sym g);
   nodes = h.nodes ∙ ap (λ (r : PhrasesOut). nodes_onto ns r.nodes) e ∙ sym (nodes_more ns o.node rest'.nodes) ∙ ap (λ xs. nodes_onto xs rest'.nodes) (sym n);
 }
 
@@ -57,6 +60,11 @@ cases_turn start now later g g' ns ns' whole rest rest' o h e f k n = record {
   gives = h.gives ∙ ap (λ (r : PhrasesOut). both_give g (together r.gives)) e ∙ sym (both_both g (gives o) (together rest'.gives)) ∙ ap (λ (x : Option Gives). both_give x (together rest'.gives)) (sym k);
   nodes = h.nodes ∙ ap (λ (r : PhrasesOut). nodes_onto ns r.nodes) e ∙ sym (nodes_more ns o.node rest'.nodes) ∙ ap (λ xs. nodes_onto xs rest'.nodes) (sym n);
 }
+
+-- behind the last phrase
+pub all_behind : (gs : Option (List Gives)) (row : List Gives → Verdict) → Behind gs [] row ≡ by_all gs row
+all_behind None row = refl
+all_behind (Some gs) row = ap row (append-nil gs)
 
 -- behind the last statement
 pub both_all : (g : Option Gives) → both_give g (together []) ≡ g

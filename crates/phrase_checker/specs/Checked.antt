@@ -29,7 +29,7 @@ use Rattle.typed_phrases.specs.declared.statements.Range.{Range}
 use Rattle.typed_phrases.specs.declared.making.Typed.{Typed}
 use Rattle.typed_phrases.specs.declared.making.Phrases.{Phrases}
 use Rattle.typed_phrases.specs.declared.making.Links.{Links}
-use Rattle.typed_phrases.specs.FoundParts.{given_view, phrases_view, links_view}
+use Rattle.typed_phrases.specs.FoundParts.{AreTyped, given_view, links_view}
 
 -- what the rules find of a phrase of a kind that stands at a spot
 abbrev pub kind_at : Scopes → Spot → tree.Kind → Out
@@ -69,8 +69,7 @@ pub record RangeChecked (path : Scopes) (old new : Checker) (r : Range) (a : tre
 
 pub record PhrasesChecked (old new : Checker) (f : Phrases) (o : PhrasesOut) : Type 0 where
   pub faults : new.faults.items ≡ old.faults.items ++ o.inside
-  pub gives : (phrases_view f).gives ≡ o.gives
-  pub nodes : (phrases_view f).nodes ≡ o.nodes
+  pub found : AreTyped f o
 
 -- a statement of a CASE, and all of them
 pub record CaseChecked (old new : Checker) (before after : Cases) (o : Out) : Type 0 where

@@ -43,6 +43,7 @@ impl<'a> Checker<'a> {
         twice(&names, &mut self.faults)?;
         let mut scope = KnownScope::new(self.alloc);
         let bounds = self.meanings(path, &KnownPath::inner(&names, &*path), decls, &mut scope)?;
+        drop(names);
         declare_labels(items, &mut scope)?;
         let inner = KnownPath::inner(&scope, &*path);
         let decls = self.decls(&inner, decls, bounds)?;

@@ -2,7 +2,7 @@ ghost use Rattle.std.specs.Prelude as std;
 ghost use Rattle.std.specs.Prelude.{◌≡◌, ℕ, ◌∷◌, ◌++◌, IfOk, OnOk, map};
 ghost use Rattle.algolw_tree.specs.Grammar.{actuals_of, links_of, lists_of, phrases_of};
 ghost use Rattle.algolw_tree.specs.Tree as kinds;
-ghost use Rattle.algolw_tree.specs.View.{actual_tree, link_tree, list_tree, optional_tree, part_tree, tree};
+ghost use Rattle.algolw_tree.specs.View.{actual_tree, applied_tree, assignment_tree, link_tree, list_tree, optional_tree, part_tree, relation_tree, repetition_tree, tree};
 ghost use Rattle.algolw_typing.specs.Scopes as scopes;
 ghost use Rattle.algolw_typing.specs.Typing.{typed_links, typed_parts, typed_phrase, typed_phrases};
 ghost use Rattle.algolw_typing.specs.Verdicts.{fault_of};
@@ -13,15 +13,19 @@ ghost use Rattle.typed_phrases.specs.FrontViews.{front_view};
 ghost use Rattle.typed_phrases.specs.Prefixes as prefixes;
 ghost use Rattle.typed_phrases.specs.Fronts.{actual_step, list_step};
 
-use algolw_tree::{Actual, Kind, Link, List, ListKind, Part, Phrase, RelOp, Spelling};
+use algolw_tree::{
+    Actual, Applied, Assignment, Kind, Link, List, ListKind, Part, Phrase, Relation, Repetition,
+    Spelling,
+};
 use bumpalo::Bump;
 use declared_names::{KnownPath, class_fault};
 use std::alloc::{AllocError, Global};
 use typed_drafts::{DraftKind, DraftPart};
 use typed_phrases::{
-    Cases, Front, Links, Lists, Parts, Phrases, Prefix, Range, Spot, Typed, assigned, case_do,
-    case_value, chained, control_scope, empty, for_list, for_range, if_else, if_then, is_class,
-    jump, leaf, left_of, name_alone, named, noted, prefixed, quoted, read, relation, while_do,
+    Cases, Front, Links, Lists, Parts, Phrases, Prefix, Range, Spot, Typed, applied, assigned,
+    case_do, case_value, chained, control_scope, empty, for_list, for_range, if_else, if_then,
+    is_class, jump, leaf, left_of, name_alone, named, noted, prefixed, quoted, read, relation,
+    while_do,
 };
 use typing_rules::{ClassSet, NoType, PhraseType, Reading, ValueType, Verdict, Wanted};
 use value_ops::{Diagnostic, Place};
@@ -89,7 +93,7 @@ impl<'a> Checker<'a> {
                 self.prefixed(path, spot, Prefix::Sign(*minus), operand)
             }
             Kind::Chain(chain) => self.chain(path, spot, &chain.first, &chain.links),
-            Kind::Relation(op, left, right) => self.relation(path, spot, *op, left, right),
+            Kind::Relation(relation) => self.relation(path, spot, relation),
             Kind::IfThen(choice) => self.conditional(
                 path,
                 spot,
@@ -99,12 +103,12 @@ impl<'a> Checker<'a> {
             ),
             Kind::CaseValue(case) => self.case_value(path, spot, &case.selector, &case.values),
             Kind::CaseDo(case) => self.case_do(path, spot, &case.selector, &case.parts),
-            Kind::WhileDo(condition, body) => self.while_do(path, spot, condition, body),
+            Kind::WhileDo(repetition) => self.while_do(path, spot, repetition),
             Kind::Assert(condition) => self.prefixed(path, spot, Prefix::Assert, condition),
             Kind::Quoted(text) => quoted(spot, text.as_slice()),
             Kind::Goto(name) => jump(spot, path, name),
             Kind::IsClass(test) => self.is_class(path, spot, &test.reference, &test.class),
-            Kind::Assign(target, value) => self.assign(path, spot, target, value),
+            Kind::Assign(assignment) => self.assign(path, spot, assignment),
             Kind::ForStep(turns) => self.for_range(
                 path,
                 spot,
@@ -117,7 +121,8 @@ impl<'a> Checker<'a> {
             Kind::ForList(turns) => {
                 self.for_list(path, spot, &turns.name, &turns.values, &turns.body)
             }
-            Kind::Named(name) => name_alone(spot, path, name),
+            Kind::Named(name) => name_alone(spot, path, &name.spelling()),
+            Kind::Applied(applied) => self.applied(path, spot, applied),
             Kind::Listed(listed) => self.named(path, spot, &listed.name, &listed.lists),
             Kind::Block(block) => self.block(path, spot, &block.decls, &block.items),
         }
@@ -161,15 +166,13 @@ impl<'a> Checker<'a> {
         &mut self,
         path: &KnownPath<'_, 't, 'a>,
         spot: Spot<'a>,
-        op: RelOp,
-        left: &'t Phrase,
-        right: &'t Phrase,
+        comparison: &'t Relation,
     ) -> Result<Typed<'a>, AllocError>
         ensures { IfOk result (λ t. Checked self.old self.new t
-            (kind_at path.now spot.entry (kinds.Relation op (tree left.now) (tree right.now)))) }
+            (kind_at path.now spot.entry (relation_tree comparison.now))) }
     {
-        let (left, right) = self.pair(path, left, right)?;
-        relation(spot, op, left, right)
+        let (left, right) = self.pair(path, &comparison.left, &comparison.right)?;
+        relation(spot, comparison.op, left, right)
     }
 
     /// Checks a WHILE.
@@ -178,13 +181,12 @@ impl<'a> Checker<'a> {
         &mut self,
         path: &KnownPath<'_, 't, 'a>,
         spot: Spot<'a>,
-        condition: &'t Phrase,
-        body: &'t Phrase,
+        repetition: &'t Repetition,
     ) -> Result<Typed<'a>, AllocError>
         ensures { IfOk result (λ t. Checked self.old self.new t
-            (kind_at path.now spot.entry (kinds.WhileDo (tree condition.now) (tree body.now)))) }
+            (kind_at path.now spot.entry (repetition_tree repetition.now))) }
     {
-        let (condition, body) = self.pair(path, condition, body)?;
+        let (condition, body) = self.pair(path, &repetition.condition, &repetition.body)?;
         while_do(spot, condition, body)
     }
 
@@ -325,7 +327,7 @@ impl<'a> Checker<'a> {
         ensures { IfOk result (λ found. PhrasesChecked self.old self.new found
             (typed_phrases path.now (phrases_of (map tree phrases.now)))) }
     {
-        let mut found = Phrases::with_capacity(self.arena, phrases.len())?;
+        let mut found = Phrases::with_capacity(self.alloc, self.arena, phrases.len())?;
         for phrase in phrases {
             let typed = self.phrase(path, phrase)?;
             found.add(typed)?;
@@ -356,14 +358,13 @@ impl<'a> Checker<'a> {
         &mut self,
         path: &KnownPath<'_, 't, 'a>,
         spot: Spot<'a>,
-        target: &'t Phrase,
-        value: &'t Phrase,
+        assignment: &'t Assignment,
     ) -> Result<Typed<'a>, AllocError>
         ensures { IfOk result (λ t. Checked self.old self.new t
-            (kind_at path.now spot.entry (kinds.Assign (tree target.now) (tree value.now)))) }
+            (kind_at path.now spot.entry (assignment_tree assignment.now))) }
     {
-        let left = left_of(path, target);
-        let (target, value) = self.pair(path, target, value)?;
+        let left = left_of(path, &assignment.target);
+        let (target, value) = self.pair(path, &assignment.target, &assignment.value)?;
         assigned(spot, left, target, value)
     }
 
@@ -475,6 +476,23 @@ impl<'a> Checker<'a> {
         named(spot, target, found)
     }
 
+    /// Checks a name and the one list of actuals behind it.
+    #[cycle(phrases)]
+    fn applied<'t>(
+        &mut self,
+        path: &KnownPath<'_, 't, 'a>,
+        spot: Spot<'a>,
+        application: &'t Applied,
+    ) -> Result<Typed<'a>, AllocError>
+        ensures { IfOk result (λ t. Checked self.old self.new t
+            (kind_at path.now spot.entry (applied_tree application.now))) }
+    {
+        let target = path.declared(&application.name.spelling());
+        let front = Front::Name(spot.place, target);
+        let parts = self.parts(path, front.reading(), &application.actuals)?;
+        applied(spot, target, application.place, parts)
+    }
+
     /// Checks one of the lists behind a name.
     #[cycle(phrases)]
     fn list<'t>(
@@ -536,7 +554,7 @@ impl<'a> Checker<'a> {
             Actual::Star(place) => found.add_star(*place),
             Actual::Phrase(phrase) => {
                 let typed = self.inside(path, phrase)?;
-                let given = read(self.arena, path, wanted, phrase, typed)?;
+                let given = read(self.alloc, self.arena, path, wanted, phrase, typed)?;
                 self.note(given.verdict)?;
                 found.add(given.part, given.draft)?;
                 Ok(())

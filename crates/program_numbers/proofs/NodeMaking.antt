@@ -1,5 +1,5 @@
 -- What kinds of phrases, lists and declarations are, by what was made of their parts.
-use Rattle.std.proofs.Common.{◌≡◌, ℕ, List, Option, map, refl, ap, ◌∙◌}
+use Rattle.std.proofs.Common.{◌≡◌, ℕ, List, [], ◌∷◌, ◌++◌, Option, map, refl, ap, ◌∙◌}
 use Rattle.std.specs.Option.{option_map}
 use Rattle.std.specs.declared.vec.Vec.{Vec}
 use Rattle.std.specs.declared.alloc.Global.{Global}
@@ -23,7 +23,7 @@ use Rattle.algolw_tree.specs.declared.programs.TypedFormal.{TypedFormal}
 use Rattle.algolw_tree.specs.declared.programs.TypedProc.{roll-TypedProc}
 use Rattle.algolw_typing.specs.Types as types
 use Rattle.algolw_typing.specs.Typed as typed
-use Rattle.algolw_typing.specs.ProgramView.{numbered, at_view, node_view, kind_view, listing_view, actual_view, part_view, item_view, labelled_view, decl_view, gives_view, type_view, formal_view, procedure_view}
+use Rattle.algolw_typing.specs.ProgramView.{Numbers, numbered, at_view, node_view, kind_view, listing_view, actual_view, part_view, item_view, labelled_view, decl_view, gives_view, type_view, formal_view, procedure_view}
 use Rattle.typed_drafts.specs.Onto.{nodes_onto, links_onto, lists_onto, actuals_onto, items_onto, decls_onto, bounds_onto}
 use Rattle.program_numbers.specs.Makes.{Makes, numbers_in, target_in}
 use Rattle.program_numbers.specs.ProgramParts.{perhaps_in, link_in, list_in, bound_in}
@@ -80,6 +80,14 @@ module _ (n : Numbering) where
   pub actuals_made : (a b : Classes) (p : Place) (v : Vec TypedActual Global) (actuals : List typed.Actual) → Makes n a b (λ ns. map (actual_view ns) v.items) actuals
       → Makes n a b (λ ns. listing_view ns p (Actuals v)) (typed.OfActuals p (actuals_onto actuals typed.no_actuals))
   actuals_made a b p v actuals f = makes_of n a b _ actuals (λ xs. typed.OfActuals p (actuals_onto xs typed.no_actuals)) _ _ (λ sets. actuals_in (numbers_in n sets) p v) refl f
+
+  pub applied_made : (a b : Classes) (m : ℕ) (name p : Place) (v : Vec TypedActual Global) (before : List TypedList) (l : TypedList) (lists : Vec TypedList Global) (actuals : List typed.Actual) → numbered n.names m ≡ name
+      → lists.items ≡ before ++ l ∷ [] → before ≡ [] → ((ns : Numbers) → list_in ns l ≡ listing_view ns p (Actuals v)) → Makes n a b (λ ns. map (actual_view ns) v.items) actuals
+      → Makes n a b (λ ns. kind_view ns (Named m lists)) (typed.Named name (typed.list_and (typed.OfActuals p (actuals_onto actuals typed.no_actuals)) typed.no_lists))
+  applied_made a b m name p v before l lists actuals e is none held f =
+      named_made a b m name lists (typed.OfActuals p (actuals_onto actuals typed.no_actuals) ∷ []) e
+      (makes_of n a b _ (typed.OfActuals p (actuals_onto actuals typed.no_actuals)) (λ x. x ∷ []) _ _
+      (λ sets. ap (map (list_in (numbers_in n sets))) (is ∙ ap (λ xs. xs ++ l ∷ []) none) ∙ ap (λ x. x ∷ []) (held (numbers_in n sets))) refl (actuals_made a b p v actuals f))
 
   pub array_made : (a b c : Classes) (t : SimpleType) (ts : Vec (ℕ × Place) Global) (v : Vec TypedBound Global) (type : types.ValueType) (names : List typed.Placed) (bounds : List typed.Bound) → map (target_in n) ts.items ≡ names
       → Makes n a b (λ ns. type_view ns t) type → Makes n b c (λ ns. map (bound_in ns) v.items) bounds → Makes n a c (λ ns. decl_view ns (Array t ts v)) (typed.Array type names (bounds_onto bounds typed.no_bounds))

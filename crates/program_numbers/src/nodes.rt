@@ -2,7 +2,7 @@ ghost use Rattle.std.specs.Prelude.{IfOk, map};
 ghost use Rattle.algolw_typing.specs.ProgramView as program;
 ghost use Rattle.algolw_typing.specs.Typed as typed;
 ghost use Rattle.typed_drafts.specs.DraftView.{draft_view, kind_view, link_view, part_view, actual_view, item_view, labelled_view, decl_view, procedure_view};
-ghost use Rattle.typed_drafts.specs.DraftParts.{list_view, bound_view};
+ghost use Rattle.typed_drafts.specs.DraftParts.{applied_view, list_view, bound_view, lent_view};
 ghost use Rattle.typed_drafts.specs.Onto.{nodes_onto, links_onto, lists_onto, actuals_onto, items_onto, bounds_onto, decls_onto};
 ghost use Rattle.typed_drafts.specs.StatementParts.{perhaps_of};
 ghost use Rattle.program_numbers.specs.Makes.{Makes};
@@ -17,8 +17,8 @@ use algolw_tree::{
 };
 use std::alloc::AllocError;
 use typed_drafts::{
-    Draft, DraftActual, DraftBound, DraftDecl, DraftItem, DraftKind, DraftLabelled, DraftLink,
-    DraftList, DraftListKind, DraftPart, DraftProc,
+    Draft, DraftActual, DraftApplied, DraftBound, DraftDecl, DraftItem, DraftKind, DraftLabelled,
+    DraftLink, DraftList, DraftListKind, DraftPart, DraftProc,
 };
 use value_ops::Place;
 
@@ -55,18 +55,29 @@ impl Numbering {
             DraftKind::Number(number) => Ok(NodeKind::Number(*number)),
             DraftKind::Truth(truth) => Ok(NodeKind::Truth(*truth)),
             DraftKind::BitsLit(bits) => Ok(NodeKind::BitsLit(*bits)),
-            DraftKind::Quoted(text) => Ok(NodeKind::Quoted(self.literal(text)?)),
+            DraftKind::Quoted(text) => Ok(NodeKind::Quoted(self.literal(text.characters)?)),
             DraftKind::Goto(label) => Ok(NodeKind::Goto(self.names.number(*label))),
-            DraftKind::Named(name, lists) => self.named(table, *name, lists),
+            DraftKind::Named(name) => self.named(table, *name, &[]),
+            DraftKind::Applied(applied) => self.applied(table, applied),
+            DraftKind::Listed(listed) => self.named(table, listed.name, listed.lists),
             DraftKind::Negated(operand) => Ok(NodeKind::Negated(self.boxed(table, operand)?)),
             DraftKind::Abs(operand) => Ok(NodeKind::Abs(self.boxed(table, operand)?)),
             DraftKind::Signed(minus, operand) => {
                 Ok(NodeKind::Signed(*minus, self.boxed(table, operand)?))
             }
             DraftKind::Chain(chain) => self.chain(table, chain.first, chain.links),
-            DraftKind::Relation(op, left, right) => self.relation(table, *op, left, right),
-            DraftKind::IsClass(operand, class, at) => self.is_class(table, operand, *class, *at),
-            DraftKind::Assign(left, right) => self.assign(table, left, right),
+            DraftKind::Relation(relation) => {
+                self.relation(table, relation.op, relation.left, relation.right)
+            }
+            DraftKind::IsClass(test) => self.is_class(
+                table,
+                test.reference,
+                test.class,
+                test.place,
+            ),
+            DraftKind::Assign(assignment) => {
+                self.assign(table, assignment.target, assignment.value)
+            }
             DraftKind::IfThen(conditional) => self.conditional(
                 table,
                 conditional.condition,
@@ -75,18 +86,20 @@ impl Numbering {
             ),
             DraftKind::CaseValue(case) => self.case_value(table, case.subject, case.values),
             DraftKind::CaseDo(case) => self.case_do(table, case.subject, case.parts),
-            DraftKind::ForStep(stepped) => self.stepped(
+            DraftKind::ForStep(turns) => self.stepped(
                 table,
-                stepped.control,
-                stepped.start,
-                stepped.step,
-                stepped.limit,
-                stepped.body,
+                turns.control,
+                turns.start,
+                turns.step,
+                turns.limit,
+                turns.body,
             ),
-            DraftKind::ForList(listed) => {
-                self.listed(table, listed.control, listed.values, listed.body)
+            DraftKind::ForList(turns) => {
+                self.listed(table, turns.control, turns.values, turns.body)
             }
-            DraftKind::WhileDo(condition, body) => self.while_do(table, condition, body),
+            DraftKind::WhileDo(repetition) => {
+                self.while_do(table, repetition.condition, repetition.body)
+            }
             DraftKind::Assert(condition) => Ok(NodeKind::Assert(self.boxed(table, condition)?)),
             DraftKind::Block(block) => self.block(table, block.decls, block.items),
         }
@@ -154,6 +167,26 @@ impl Numbering {
         let condition = self.boxed(table, condition)?;
         let body = self.boxed(table, body)?;
         Ok(NodeKind::WhileDo(condition, body))
+    }
+
+    /// A name with one list of actuals behind it.
+    #[cycle(nodes)]
+    fn applied(
+        &self,
+        table: &mut TableBuilder,
+        applied: &DraftApplied,
+    ) -> Result<NodeKind, AllocError>
+        requires { KindNumbered self.now (applied_view applied.now) }
+        ensures { IfOk result (λ made. Makes self.now table.old table.new (λ ns. program.kind_view ns made)
+            (applied_view applied.now)) }
+    {
+        let actuals = self.actuals(table, applied.actuals)?;
+        let mut lists = Vec::with_capacity(self.alloc, 1)?;
+        lists.push(TypedList {
+            place: applied.place,
+            kind: TypedListKind::Actuals(actuals),
+        })?;
+        Ok(NodeKind::Named(self.names.number(applied.name), lists))
     }
 
     /// A name and the lists behind it.
@@ -233,12 +266,12 @@ impl Numbering {
         &self,
         table: &mut TableBuilder,
         subject: &Draft,
-        values: &[Draft],
+        values: &[&Draft],
     ) -> Result<NodeKind, AllocError>
         requires { KindNumbered self.now (typed.CaseValue (draft_view subject.now)
-            (nodes_onto (map draft_view values.now) typed.no_nodes)) }
+            (nodes_onto (map lent_view values.now) typed.no_nodes)) }
         ensures { IfOk result (λ made. Makes self.now table.old table.new (λ ns. program.kind_view ns made)
-            (typed.CaseValue (draft_view subject.now) (nodes_onto (map draft_view values.now) typed.no_nodes))) }
+            (typed.CaseValue (draft_view subject.now) (nodes_onto (map lent_view values.now) typed.no_nodes))) }
     {
         let subject = self.boxed(table, subject)?;
         let values = self.nodes(table, values)?;
@@ -294,13 +327,13 @@ impl Numbering {
         &self,
         table: &mut TableBuilder,
         control: Place,
-        values: &[Draft],
+        values: &[&Draft],
         body: &Draft,
     ) -> Result<NodeKind, AllocError>
         requires { KindNumbered self.now (typed.ForList control
-            (nodes_onto (map draft_view values.now) typed.no_nodes) (draft_view body.now)) }
+            (nodes_onto (map lent_view values.now) typed.no_nodes) (draft_view body.now)) }
         ensures { IfOk result (λ made. Makes self.now table.old table.new (λ ns. program.kind_view ns made)
-            (typed.ForList control (nodes_onto (map draft_view values.now) typed.no_nodes) (draft_view body.now))) }
+            (typed.ForList control (nodes_onto (map lent_view values.now) typed.no_nodes) (draft_view body.now))) }
     {
         let values = self.nodes(table, values)?;
         let body = self.boxed(table, body)?;
@@ -345,10 +378,10 @@ impl Numbering {
 
     /// Phrases.
     #[cycle(nodes)]
-    fn nodes(&self, table: &mut TableBuilder, drafts: &[Draft]) -> Result<Vec<Node>, AllocError>
-        requires { NodesNumbered self.now (nodes_onto (map draft_view drafts.now) typed.no_nodes) }
+    fn nodes(&self, table: &mut TableBuilder, drafts: &[&Draft]) -> Result<Vec<Node>, AllocError>
+        requires { NodesNumbered self.now (nodes_onto (map lent_view drafts.now) typed.no_nodes) }
         ensures { IfOk result (λ made. Makes self.now table.old table.new
-            (λ ns. map (program.node_view ns) made.items) (map draft_view drafts.now)) }
+            (λ ns. map (program.node_view ns) made.items) (map lent_view drafts.now)) }
     {
         let mut made = Vec::new(self.alloc);
         for draft in drafts {

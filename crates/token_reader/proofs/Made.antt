@@ -1,11 +1,14 @@
 -- What is made in boxes, read at what it was made of.
-use Rattle.std.proofs.Common.{◌≡◌, ℕ, List, [], ◌∷◌, Option, map, refl, sym, ap, length, ◌∙◌}
+use Rattle.std.proofs.Common.{◌≡◌, ℕ, List, [], ◌∷◌, Option, map, refl, sym, ap, length, ◌++◌, ◌∙◌}
 use Rattle.std.specs.declared.vec.Vec.{Vec}
 use Rattle.std.specs.declared.alloc.Global.{Global}
 use Rattle.std.specs.declared.boxed.Box.{Box}
 use Rattle.algolw_tree.specs.declared.phrases.Phrase.{Phrase}
 use Rattle.algolw_tree.specs.declared.phrases.Link.{Link}
 use Rattle.algolw_tree.specs.declared.phrases.List as list
+use Rattle.algolw_tree.specs.declared.phrases.ListKind.{Actuals}
+use Rattle.algolw_tree.specs.declared.phrases.Actual.{Actual}
+use Rattle.value_ops.specs.declared.places.Place.{Place}
 use Rattle.algolw_tree.specs.declared.phrases.Listed.{Listed, out-Listed, roll-Listed, out-roll-Listed}
 use Rattle.algolw_tree.specs.declared.phrases.Chain.{Chain, out-Chain, roll-Chain, out-roll-Chain}
 use Rattle.algolw_tree.specs.declared.phrases.Conditional.{Conditional, out-Conditional, roll-Conditional, out-roll-Conditional}
@@ -13,12 +16,23 @@ use Rattle.algolw_tree.specs.declared.phrases.CaseValue.{CaseValue, out-CaseValu
 use Rattle.algolw_tree.specs.declared.phrases.ForStep.{ForStep, out-ForStep, roll-ForStep, out-roll-ForStep}
 use Rattle.algolw_tree.specs.declared.phrases.ForList.{ForList, out-ForList, roll-ForList, out-roll-ForList}
 use Rattle.algolw_tree.specs.Tree as Tree
-use Rattle.algolw_tree.specs.Grammar.{at, first_of, chain_of, lists_of, links_of, phrases_of}
-use Rattle.algolw_tree.specs.View.{tree, list_tree, link_tree, optional_tree, listed_tree, chain_tree, conditional_tree, case_value_tree, for_step_tree, for_list_tree}
-use Rattle.algolw_tree.proofs.Rows.{listed_is, chain_is, conditional_is, case_value_is, for_step_is, for_list_is}
+use Rattle.algolw_tree.specs.Grammar.{at, first_of, named_of, chain_of, actuals_of, lists_of, links_of, phrases_of}
+use Rattle.algolw_tree.specs.View.{tree, actual_tree, list_tree, link_tree, optional_tree, listed_tree, chain_tree, conditional_tree, case_value_tree, for_step_tree, for_list_tree}
+use Rattle.algolw_tree.proofs.Rows.{actuals_at, listed_is, chain_is, conditional_is, case_value_is, for_step_is, for_list_is}
 
 pub listed_made : (l : Listed) (n : List ℕ) (v : Vec list.List Global) → l ≡ roll-Listed (record { name = n; lists = v }) → listed_tree l ≡ Tree.Named n (lists_of (map list_tree v.items))
 listed_made l n v e = listed_is l ∙ ap (λ f. Tree.Named f.name (lists_of (map list_tree f.lists.items))) (ap out-Listed e ∙ out-roll-Listed _)
+
+-- a name with one list, of actuals, which was the last of its lists
+pub named_applied : (n s : List ℕ) (p : Place) (ls before : List list.List) (last : list.List) (opening : Place) (v : Vec Actual Global)
+    → s ≡ n → ls ≡ before ++ last ∷ [] → length before ≡ 0 → last.place ≡ opening → last.kind ≡ Actuals v
+    → named_of ((s, p), Tree.OfActuals opening (actuals_of (map actual_tree v.items)) ∷ []) ≡ named_of ((n, p), map list_tree ls)
+named_applied n s p ls [] last opening v same popped none there kind =
+    ap (λ z. named_of ((z, p), Tree.OfActuals opening (actuals_of (map actual_tree v.items)) ∷ [])) same
+    ∙ ap (λ q. named_of ((n, p), Tree.OfActuals q (actuals_of (map actual_tree v.items)) ∷ [])) (sym there)
+    ∙ ap (λ z. named_of ((n, p), z ∷ [])) (sym (actuals_at last.place last.kind v v.items kind refl))
+    ∙ ap (λ zs. named_of ((n, p), map list_tree zs)) (sym popped)
+named_applied n s p ls (l ∷ before) last opening v same popped some there kind = absurd (cc some)
 
 links_chain : (x : Tree.Phrase) (ls : List Link) → (length ls ≡ 0 → ⊥) → at (first_of x) (Tree.Chain x (links_of (map link_tree ls))) ≡ chain_of (x, map link_tree ls)
 links_chain x [] h = absurd (h refl)

@@ -1,5 +1,5 @@
 //! What stands outside the cycle of phrases: single tokens, operators, names, types, formals and record classes as they are
-//! read, and the making of phrases that hold vectors.
+//! read, and the making of phrases.
 #![tactic(auto)]
 
 pub mod make;

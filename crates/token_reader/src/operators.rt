@@ -1,4 +1,4 @@
-ghost use Rattle.std.specs.Prelude.{◌≡◌};
+ghost use Rattle.std.specs.Prelude.{◌≡◌, IfOk};
 ghost use Rattle.algolw_tree.specs.Grammar.{op_at};
 ghost use Rattle.algolw_tree.specs.View.{tree};
 ghost use Rattle.algolw_grammar.specs.Kinds.{opens};
@@ -9,7 +9,8 @@ ghost use Rattle.token_reader.specs.Levels.{operators, read_operator};
 
 use crate::parser::Parser;
 use crate::stop::Stop;
-use algolw_tree::{Kind, Op, Phrase, RelOp, Symbol, TokenKind, Word};
+use algolw_tree::{Kind, Op, Phrase, RelOp, Spelling, Symbol, TokenKind, Word};
+use std::alloc::AllocError;
 use value_ops::Place;
 
 /// A level of operators that are chained, from those that bind least on.
@@ -131,6 +132,13 @@ impl Parser<'_> {
         Ok((op, token.place))
     }
 
+    /// A string once more, in a box.
+    fn copied(&self, text: &Spelling) -> Result<Box<Spelling>, AllocError>
+        ensures { IfOk result (λ copy. copy.value ≡ text.now) }
+    {
+        Ok(Box::new(self.alloc, text.copied(self.alloc)?)?)
+    }
+
     /// A value that is written out.
     #[tactic(auto, unfolding(algolw_grammar::specs::Reading::read_literal))]
     pub fn literal(&mut self) -> Result<Phrase, Stop>
@@ -142,7 +150,7 @@ impl Parser<'_> {
         let kind = match &token.kind {
             TokenKind::Number(number) => Kind::Number(*number),
             TokenKind::BitsLit(bits) => Kind::BitsLit(*bits),
-            TokenKind::Quoted(text) => Kind::Quoted(text.copied(self.alloc)?),
+            TokenKind::Quoted(text) => Kind::Quoted(self.copied(text)?),
             TokenKind::Word(Word::True) => Kind::Truth(true),
             TokenKind::Word(Word::False) => Kind::Truth(false),
             TokenKind::Word(Word::Null) => Kind::Null,

@@ -1,17 +1,18 @@
 ghost use Rattle.std.specs.Prelude.{◌≡◌, suc, None, is_some, IfOk, MatchOption};
 ghost use Rattle.algolw_tree.specs.Parts.{follow, is_else};
-ghost use Rattle.algolw_tree.specs.Grammar.{empty_at, goto_of};
+ghost use Rattle.algolw_tree.specs.Grammar.{empty_at};
 ghost use Rattle.algolw_tree.specs.Tree as T;
-ghost use Rattle.algolw_tree.specs.View.{empty_tree, tree};
+ghost use Rattle.algolw_tree.specs.View.{empty_tree};
 ghost use Rattle.algolw_grammar.specs.Kinds.{opens, has, word_number, the_word, the_symbol, a_name};
 ghost use Rattle.algolw_grammar.specs.Readers.{read_empty, read_token, read_deep};
 ghost use Rattle.algolw_grammar.specs.Reading.{read_word, read_symbol, read_name, read_number, read_goto, first_phrase, first_goto, first_decl, listing_values};
 ghost use Rattle.algolw_grammar.specs.Taken.{is_word, is_symbol, finish_taken, label_taken};
 ghost use Rattle.token_reader.specs.declared.stop.Stop.TheVariants.{Unexpected, TooDeep};
-ghost use Rattle.token_reader.specs.Gives.{Gives, Fails, place_at, label_at, ReadsLabel, ReadsLabels};
+ghost use Rattle.token_reader.specs.Gives.{Gives, Fails, boxed_tree, place_at, label_at, ReadsLabel, ReadsLabels};
 
+use crate::make;
 use crate::stop::Stop;
-use algolw_tree::{Kind, Names, Phrase, Spelling, Symbol, Token, TokenKind, Word};
+use algolw_tree::{Names, Phrase, Spelling, Symbol, Token, TokenKind, Word};
 use std::alloc::{AllocError, Global};
 use value_ops::Place;
 
@@ -303,18 +304,18 @@ impl Parser<'_> {
 
     /// `GOTO name | GO TO name`
     #[tactic(auto, unfolding(algolw_grammar::specs::Reading::read_goto))]
-    pub fn jump(&mut self) -> Result<Phrase, Stop>
-        ensures { Gives tree result self.new.rest.now (read_goto self.old.rest.now) }
+    pub fn jump(&mut self) -> Result<Box<Phrase>, Stop>
+        ensures { Gives boxed_tree result self.new.rest.now (read_goto self.old.rest.now) }
     {
         if self.at_word(Word::Goto) {
             let first = self.expect_word(Word::Goto)?;
             let label = self.expect_name()?;
-            Ok(jump_to(first, label))
+            Ok(make::jump(self.alloc, first, label)?)
         } else {
             let first = self.expect_word(Word::Go)?;
             self.expect_word(Word::To)?;
             let label = self.expect_name()?;
-            Ok(jump_to(first, label))
+            Ok(make::jump(self.alloc, first, label)?)
         }
     }
 
@@ -380,17 +381,5 @@ fn label_of(
             Ok(Some((label, name.place)))
         }
         _ => Ok(None),
-    }
-}
-
-/// A jump to a label, which begins at a place.
-fn jump_to(first: Place, label: (Spelling, Place)) -> Phrase
-    ensures { tree result ≡ goto_of (first, label) }
-{
-    let (name, place) = label;
-    Phrase {
-        place,
-        first,
-        kind: Kind::Goto(name),
     }
 }

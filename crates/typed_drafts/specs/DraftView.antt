@@ -7,10 +7,15 @@ use Rattle.typing_rules.specs.View.{value_type, classes_of}
 use Rattle.typed_drafts.specs.declared.drafts.Draft.{Draft}
 use Rattle.typed_drafts.specs.declared.drafts.DraftGives.{DraftGives}
 use Rattle.typed_drafts.specs.declared.drafts.DraftGives.TheVariants as gives
-use Rattle.typed_drafts.specs.declared.drafts.DraftKind.{DraftKind, Empty, Null, Number, Truth, BitsLit, Quoted, Goto, Named', Negated', Abs', Signed', Chain', Relation', IsClass', Assign', IfThen', CaseValue', CaseDo', ForStep', ForList', WhileDo', Assert', Block', Row_of-DraftList, end_of-DraftList, more_of-DraftList}
+use Rattle.typed_drafts.specs.declared.drafts.DraftKind.{DraftKind, Empty, Null, Number, Truth, BitsLit, Quoted, Goto, Named, Applied', Listed', Negated', Abs', Signed', Chain', Relation', IsClass', Assign', IfThen', CaseValue', CaseDo', ForStep', ForList', WhileDo', Assert', Block'}
+use Rattle.typed_drafts.specs.declared.drafts.DraftListed.{DraftListed, DraftListed', Row_of-DraftList, end_of-DraftList, more_of-DraftList}
+use Rattle.typed_drafts.specs.declared.drafts.DraftRelation.{DraftRelation, DraftRelation'}
+use Rattle.typed_drafts.specs.declared.drafts.DraftClassTest.{DraftClassTest, DraftClassTest'}
+use Rattle.typed_drafts.specs.declared.drafts.DraftAssignment.{DraftAssignment, DraftAssignment'}
+use Rattle.typed_drafts.specs.declared.drafts.DraftRepetition.{DraftRepetition, DraftRepetition'}
 use Rattle.typed_drafts.specs.declared.drafts.DraftChain.{DraftChain, DraftChain', Row_of-DraftLink, end_of-DraftLink, more_of-DraftLink}
 use Rattle.typed_drafts.specs.declared.drafts.DraftIfThen.{DraftIfThen, DraftIfThen'}
-use Rattle.typed_drafts.specs.declared.drafts.DraftCaseValue.{DraftCaseValue, DraftCaseValue', Row_of-Draft, end_of-Draft, more_of-Draft}
+use Rattle.typed_drafts.specs.declared.drafts.DraftCaseValue.{DraftCaseValue, DraftCaseValue', Row_of-DraftCaseValue-values-1, end_of-DraftCaseValue-values-1, more_of-DraftCaseValue-values-1}
 use Rattle.typed_drafts.specs.declared.drafts.DraftCaseDo.{DraftCaseDo, DraftCaseDo', Row_of-DraftPart, end_of-DraftPart, more_of-DraftPart}
 use Rattle.typed_drafts.specs.declared.drafts.DraftForStep.{DraftForStep, DraftForStep', Held-DraftForStep-step, Some', None'}
 use Rattle.typed_drafts.specs.declared.drafts.DraftForList.{DraftForList, DraftForList'}
@@ -50,7 +55,7 @@ gives_view gives.Integer = std.Some (types.Simple types.Integer)
 gives_view gives.Logical = std.Some (types.Simple types.Logical)
 gives_view gives.Bits = std.Some (types.Simple types.Bits)
 gives_view (gives.Str n) = std.Some (types.Simple (types.Str n))
-gives_view (gives.Reference set) = std.Some (types.Simple (types.Reference (classes_of set.now)))
+gives_view (gives.Reference set) = std.Some (types.Simple (types.Reference (classes_of set)))
 
 -- where a phrase is counted whose first token is at a place: a statement is, at that token
 abbrev pub counted_view : Place → DraftGives → std.Option Place
@@ -71,24 +76,41 @@ abbrev mutual
   kind_view (Number n) = typed.Number n
   kind_view (Truth b) = typed.Truth b
   kind_view (BitsLit b) = typed.BitsLit b
-  kind_view (Quoted t) = typed.Quoted t.now
+  kind_view (Quoted t) = typed.Quoted t.now.characters.now
   kind_view (Goto n) = typed.Goto n
-  kind_view (Named' n slice shape lists) = typed.Named n (lists_view lists)
+  kind_view (Named n) = typed.Named n typed.no_lists
+  kind_view (Applied' q n at slice shape actuals) = typed.Named n (typed.list_and (typed.OfActuals at (actuals_view actuals)) typed.no_lists)
+  kind_view (Listed' q listed) = listed_view listed
   kind_view (Negated' q p f k g) = typed.Negated (at_view p f g (kind_view k))
   kind_view (Abs' q p f k g) = typed.Abs (at_view p f g (kind_view k))
   kind_view (Signed' minus q p f k g) = typed.Signed minus (at_view p f g (kind_view k))
   kind_view (Chain' q chain) = chain_view chain
-  kind_view (Relation' op q p f k g q2 p2 f2 k2 g2) = typed.Relation op (at_view p f g (kind_view k)) (at_view p2 f2 g2 (kind_view k2))
-  kind_view (IsClass' q p f k g n at) = typed.IsClass (at_view p f g (kind_view k)) n at
-  kind_view (Assign' q p f k g q2 p2 f2 k2 g2) = typed.Assign (at_view p f g (kind_view k)) (at_view p2 f2 g2 (kind_view k2))
+  kind_view (Relation' q relation) = relation_view relation
+  kind_view (IsClass' q test) = class_test_view test
+  kind_view (Assign' q assignment) = assignment_view assignment
   kind_view (IfThen' q conditional) = if_view conditional
   kind_view (CaseValue' q choice) = case_value_view choice
   kind_view (CaseDo' q choice) = case_do_view choice
   kind_view (ForStep' q loop) = for_step_view loop
   kind_view (ForList' q loop) = for_list_view loop
-  kind_view (WhileDo' q p f k g q2 p2 f2 k2 g2) = typed.WhileDo (at_view p f g (kind_view k)) (at_view p2 f2 g2 (kind_view k2))
+  kind_view (WhileDo' q loop) = repetition_view loop
   kind_view (Assert' q p f k g) = typed.Assert (at_view p f g (kind_view k))
   kind_view (Block' q slice shape decls slice2 shape2 items) = typed.Block (decls_view decls) (items_view items)
+
+  pub listed_view : DraftListed → typed.Kind
+  listed_view (DraftListed' n slice shape lists) = typed.Named n (lists_view lists)
+
+  pub relation_view : DraftRelation → typed.Kind
+  relation_view (DraftRelation' op q p f k g q2 p2 f2 k2 g2) = typed.Relation op (at_view p f g (kind_view k)) (at_view p2 f2 g2 (kind_view k2))
+
+  pub class_test_view : DraftClassTest → typed.Kind
+  class_test_view (DraftClassTest' q p f k g n at) = typed.IsClass (at_view p f g (kind_view k)) n at
+
+  pub assignment_view : DraftAssignment → typed.Kind
+  assignment_view (DraftAssignment' q p f k g q2 p2 f2 k2 g2) = typed.Assign (at_view p f g (kind_view k)) (at_view p2 f2 g2 (kind_view k2))
+
+  pub repetition_view : DraftRepetition → typed.Kind
+  repetition_view (DraftRepetition' q p f k g q2 p2 f2 k2 g2) = typed.WhileDo (at_view p f g (kind_view k)) (at_view p2 f2 g2 (kind_view k2))
 
   pub chain_view : DraftChain → typed.Kind
   chain_view (DraftChain' q p f k g slice shape links) = typed.Chain (at_view p f g (kind_view k)) (links_view links)
@@ -108,9 +130,9 @@ abbrev mutual
   pub for_list_view : DraftForList → typed.Kind
   for_list_view (DraftForList' n slice shape values q p f k g) = typed.ForList n (nodes_view values) (at_view p f g (kind_view k))
 
-  pub nodes_view : {m : _} → Row_of-Draft m → typed.Nodes
-  nodes_view end_of-Draft = typed.no_nodes
-  nodes_view (more_of-Draft p f k g rest) = typed.node_and (at_view p f g (kind_view k)) (nodes_view rest)
+  pub nodes_view : {m : _} → Row_of-DraftCaseValue-values-1 m → typed.Nodes
+  nodes_view end_of-DraftCaseValue-values-1 = typed.no_nodes
+  nodes_view (more_of-DraftCaseValue-values-1 q p f k g rest) = typed.node_and (at_view p f g (kind_view k)) (nodes_view rest)
 
   pub links_view : {m : _} → Row_of-DraftLink m → typed.Links
   links_view end_of-DraftLink = typed.no_links

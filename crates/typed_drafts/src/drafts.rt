@@ -37,10 +37,11 @@ pub enum DraftGives<'a> {
     /// A value of type STRING of this length.
     Str(u32),
     /// A value of type REFERENCE to these classes.
-    Reference(&'a ClassSet<'a>),
+    Reference(ClassSet<'a>),
 }
 
-/// What a phrase of a program is, with each name as the place where it is declared.
+/// What a phrase of a program is, with each name as the place where it is declared. There are many drafts, so a kind
+/// has at most one reference, to what it is made of.
 #[cycle(drafts)]
 #[derive(Clone, Copy)]
 pub enum DraftKind<'a> {
@@ -55,9 +56,13 @@ pub enum DraftKind<'a> {
     /// Bits that are written out.
     BitsLit(u32),
     /// A string that is written out.
-    Quoted(&'a [u8]),
-    /// A name, as the place where it is declared, and the lists in parentheses behind it.
-    Named(Place, &'a [DraftList<'a>]),
+    Quoted(&'a DraftText<'a>),
+    /// A name without lists behind it, as the place where it is declared.
+    Named(Place),
+    /// A name with one list of subscripts, fields or actuals behind it.
+    Applied(&'a DraftApplied<'a>),
+    /// A name with any other lists behind it.
+    Listed(&'a DraftListed<'a>),
     /// `~` and its operand.
     Negated(&'a Draft<'a>),
     /// `ABS` and its operand.
@@ -67,11 +72,11 @@ pub enum DraftKind<'a> {
     /// Operands with operators of one level between them, from left to right.
     Chain(&'a DraftChain<'a>),
     /// A comparison.
-    Relation(RelOp, &'a Draft<'a>, &'a Draft<'a>),
-    /// Whether a reference is to a record of a class: the place where it is declared, and the one where it is named.
-    IsClass(&'a Draft<'a>, Place, Place),
-    /// An assignment of the second to the first.
-    Assign(&'a Draft<'a>, &'a Draft<'a>),
+    Relation(&'a DraftRelation<'a>),
+    /// Whether a reference is to a record of a class.
+    IsClass(&'a DraftClassTest<'a>),
+    /// An assignment.
+    Assign(&'a DraftAssignment<'a>),
     /// `IF`.
     IfThen(&'a DraftIfThen<'a>),
     /// `CASE` with the values to choose from.
@@ -82,14 +87,87 @@ pub enum DraftKind<'a> {
     ForStep(&'a DraftForStep<'a>),
     /// `FOR` with values.
     ForList(&'a DraftForList<'a>),
-    /// `WHILE`, its condition, and what is done.
-    WhileDo(&'a Draft<'a>, &'a Draft<'a>),
+    /// `WHILE` a condition holds.
+    WhileDo(&'a DraftRepetition<'a>),
     /// `GOTO` a label, as the place where it is declared.
     Goto(Place),
     /// `ASSERT` a condition.
     Assert(&'a Draft<'a>),
     /// A block.
     Block(&'a DraftBlock<'a>),
+}
+
+/// A string that is written out.
+#[derive(Clone, Copy)]
+pub struct DraftText<'a> {
+    /// Its characters.
+    pub characters: &'a [u8],
+}
+
+/// A name with one list of subscripts, fields or actuals behind it.
+#[cycle(drafts)]
+#[derive(Clone, Copy)]
+pub struct DraftApplied<'a> {
+    /// The name, as the place where it is declared.
+    pub name: Place,
+    /// The place of the list's opening parenthesis.
+    pub place: Place,
+    /// The subscripts, fields or actuals.
+    pub actuals: &'a [DraftActual<'a>],
+}
+
+/// A name with lists behind it.
+#[cycle(drafts)]
+#[derive(Clone, Copy)]
+pub struct DraftListed<'a> {
+    /// The name, as the place where it is declared.
+    pub name: Place,
+    /// The lists in parentheses.
+    pub lists: &'a [DraftList<'a>],
+}
+
+/// A comparison.
+#[cycle(drafts)]
+#[derive(Clone, Copy)]
+pub struct DraftRelation<'a> {
+    /// How it compares.
+    pub op: RelOp,
+    /// What stands to the left of the operator.
+    pub left: &'a Draft<'a>,
+    /// What stands to the right of it.
+    pub right: &'a Draft<'a>,
+}
+
+/// A test of a reference's class.
+#[cycle(drafts)]
+#[derive(Clone, Copy)]
+pub struct DraftClassTest<'a> {
+    /// The reference.
+    pub reference: &'a Draft<'a>,
+    /// The class, as the place where it is declared.
+    pub class: Place,
+    /// Where the class is named.
+    pub place: Place,
+}
+
+/// An assignment.
+#[cycle(drafts)]
+#[derive(Clone, Copy)]
+pub struct DraftAssignment<'a> {
+    /// What is assigned to.
+    pub target: &'a Draft<'a>,
+    /// What is assigned.
+    pub value: &'a Draft<'a>,
+}
+
+/// A loop that goes on as long as a condition holds.
+#[cycle(drafts)]
+#[derive(Clone, Copy)]
+pub struct DraftRepetition<'a> {
+    /// The condition.
+    pub condition: &'a Draft<'a>,
+    /// What is done.
+    pub body: &'a Draft<'a>,
 }
 
 /// Operands with operators of one level between them, from left to right.
@@ -121,7 +199,7 @@ pub struct DraftCaseValue<'a> {
     /// What chooses.
     pub subject: &'a Draft<'a>,
     /// The values.
-    pub values: &'a [Draft<'a>],
+    pub values: &'a [&'a Draft<'a>],
 }
 
 /// `CASE` with the statements to choose from.
@@ -157,7 +235,7 @@ pub struct DraftForList<'a> {
     /// The control name, as the place where it is declared.
     pub control: Place,
     /// The values.
-    pub values: &'a [Draft<'a>],
+    pub values: &'a [&'a Draft<'a>],
     /// What is done.
     pub body: &'a Draft<'a>,
 }

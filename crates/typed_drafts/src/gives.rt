@@ -1,27 +1,25 @@
-ghost use Rattle.std.specs.Prelude.{◌≡◌, Some, None, IfOk};
+ghost use Rattle.std.specs.Prelude.{◌≡◌, Some, None};
 ghost use Rattle.std.specs.Option.{option_map};
 ghost use Rattle.algolw_typing.specs.Types as types;
 ghost use Rattle.typing_rules.specs.View.{phrase_type, value_type};
 ghost use Rattle.typed_drafts.specs.DraftView.{counted_view, gives_view};
 
 use crate::drafts::DraftGives;
-use bumpalo::Bump;
-use std::alloc::AllocError;
 use typing_rules::{PhraseType, ValueType};
 use value_ops::Place;
 
 impl<'a> DraftGives<'a> {
-    /// A value of a type. The classes of a reference stand in the arena.
-    pub fn value(arena: &'a Bump, of: ValueType<'a>) -> Result<DraftGives<'a>, AllocError>
-        ensures gives { IfOk result (λ g. gives_view g ≡ Some (types.Simple (value_type of.entry))) }
-        ensures uncounted { (first : Place) → IfOk result (λ g. counted_view first g ≡ None) }
+    /// A value of a type.
+    pub fn value(of: ValueType<'a>) -> DraftGives<'a>
+        ensures gives { gives_view result ≡ Some (types.Simple (value_type of.entry)) }
+        ensures uncounted { (first : Place) → counted_view first result ≡ None }
     {
         match of {
-            ValueType::Integer => Ok(DraftGives::Integer),
-            ValueType::Logical => Ok(DraftGives::Logical),
-            ValueType::Bits => Ok(DraftGives::Bits),
-            ValueType::Str(length) => Ok(DraftGives::Str(length)),
-            ValueType::Reference(classes) => Ok(DraftGives::Reference(arena.try_alloc(classes)?)),
+            ValueType::Integer => DraftGives::Integer,
+            ValueType::Logical => DraftGives::Logical,
+            ValueType::Bits => DraftGives::Bits,
+            ValueType::Str(length) => DraftGives::Str(length),
+            ValueType::Reference(classes) => DraftGives::Reference(classes),
         }
     }
 
@@ -36,9 +34,9 @@ impl<'a> DraftGives<'a> {
             DraftGives::Logical => Some(PhraseType::Value(ValueType::Logical)),
             DraftGives::Bits => Some(PhraseType::Value(ValueType::Bits)),
             DraftGives::Str(length) => Some(PhraseType::Value(ValueType::Str(length))),
-            DraftGives::Reference(classes) => Some(PhraseType::Value(ValueType::Reference(
-                *classes,
-            ))),
+            DraftGives::Reference(classes) => {
+                Some(PhraseType::Value(ValueType::Reference(classes)))
+            }
         }
     }
 

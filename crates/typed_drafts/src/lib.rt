@@ -6,9 +6,10 @@ mod gives;
 mod statement_places;
 
 pub use drafts::{
-    Draft, DraftActual, DraftBlock, DraftBound, DraftCaseDo, DraftCaseValue, DraftChain,
-    DraftClass, DraftDecl, DraftForList, DraftForStep, DraftFormal, DraftGives, DraftIfThen,
-    DraftItem, DraftKind, DraftLabelled, DraftLink, DraftList, DraftListKind, DraftPart, DraftProc,
-    Places,
+    Draft, DraftActual, DraftApplied, DraftAssignment, DraftBlock, DraftBound, DraftCaseDo,
+    DraftCaseValue, DraftChain, DraftClass, DraftClassTest, DraftDecl, DraftForList, DraftForStep,
+    DraftFormal, DraftGives, DraftIfThen, DraftItem, DraftKind, DraftLabelled, DraftLink,
+    DraftList, DraftListKind, DraftListed, DraftPart, DraftProc, DraftRelation, DraftRepetition,
+    DraftText, Places,
 };
 pub use statement_places::statements;

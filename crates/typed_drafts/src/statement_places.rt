@@ -2,7 +2,7 @@ ghost use Rattle.std.specs.Prelude.{◌≡◌, ◌++◌, IfOk, OnOk, map};
 ghost use Rattle.algolw_typing.specs.Typed as typed;
 ghost use Rattle.algolw_typing.specs.Programs.{statements, counted_at, kind_statements, nodes_statements, perhaps_statements, links_statements, lists_statements, actuals_statements, items_statements, bounds_statements, decls_statements, decl_statements};
 ghost use Rattle.typed_drafts.specs.DraftView.{counted_view, draft_view, kind_view, link_view, actual_view, part_view, item_view, decl_view};
-ghost use Rattle.typed_drafts.specs.DraftParts.{list_view, bound_view};
+ghost use Rattle.typed_drafts.specs.DraftParts.{list_view, bound_view, lent_view};
 ghost use Rattle.typed_drafts.specs.Onto.{nodes_onto, links_onto, lists_onto, actuals_onto, items_onto, bounds_onto, decls_onto};
 ghost use Rattle.typed_drafts.specs.StatementParts.{perhaps_of, listing_statements, actual_statements, item_statements};
 
@@ -57,15 +57,17 @@ fn add_kind(places: &mut Vec<Place>, kind: &DraftKind) -> Result<(), AllocError>
         | DraftKind::Truth(_)
         | DraftKind::BitsLit(_)
         | DraftKind::Quoted(_)
+        | DraftKind::Named(_)
         | DraftKind::Goto(_) => Ok(()),
-        DraftKind::Named(_, lists) => add_lists(places, lists),
+        DraftKind::Applied(applied) => add_actuals(places, applied.actuals),
+        DraftKind::Listed(listed) => add_lists(places, listed.lists),
         DraftKind::Negated(operand) => add_draft(places, operand),
         DraftKind::Abs(operand) => add_draft(places, operand),
         DraftKind::Signed(_, operand) => add_draft(places, operand),
         DraftKind::Chain(chain) => add_chain(places, chain.first, chain.links),
-        DraftKind::Relation(_, left, right) => add_both(places, left, right),
-        DraftKind::IsClass(operand, _, _) => add_draft(places, operand),
-        DraftKind::Assign(left, right) => add_both(places, left, right),
+        DraftKind::Relation(relation) => add_both(places, relation.left, relation.right),
+        DraftKind::IsClass(test) => add_draft(places, test.reference),
+        DraftKind::Assign(assignment) => add_both(places, assignment.target, assignment.value),
         DraftKind::IfThen(conditional) => {
             add_conditional(
                 places,
@@ -84,7 +86,7 @@ fn add_kind(places: &mut Vec<Place>, kind: &DraftKind) -> Result<(), AllocError>
             stepped.body,
         ),
         DraftKind::ForList(listed) => add_listed(places, listed.values, listed.body),
-        DraftKind::WhileDo(condition, body) => add_both(places, condition, body),
+        DraftKind::WhileDo(repetition) => add_both(places, repetition.condition, repetition.body),
         DraftKind::Assert(condition) => add_draft(places, condition),
         DraftKind::Block(block) => add_block(places, block.decls, block.items),
     }
@@ -136,11 +138,11 @@ fn add_conditional(
 fn add_case_value(
     places: &mut Vec<Place>,
     subject: &Draft,
-    values: &[Draft],
+    values: &[&Draft],
 ) -> Result<(), AllocError>
     ensures { OnOk result (places.new.items ≡ places.old.items
         ++ (statements (draft_view subject.now)
-        ++ nodes_statements (nodes_onto (map draft_view values.now) typed.no_nodes))) }
+        ++ nodes_statements (nodes_onto (map lent_view values.now) typed.no_nodes))) }
 {
     add_draft(places, subject)?;
     add_drafts(places, values)?;
@@ -184,9 +186,9 @@ fn add_stepped(
 
 /// Adds the statements of a FOR with values.
 #[cycle(statement_places)]
-fn add_listed(places: &mut Vec<Place>, values: &[Draft], body: &Draft) -> Result<(), AllocError>
+fn add_listed(places: &mut Vec<Place>, values: &[&Draft], body: &Draft) -> Result<(), AllocError>
     ensures { OnOk result (places.new.items ≡ places.old.items
-        ++ (nodes_statements (nodes_onto (map draft_view values.now) typed.no_nodes)
+        ++ (nodes_statements (nodes_onto (map lent_view values.now) typed.no_nodes)
         ++ statements (draft_view body.now))) }
 {
     add_drafts(places, values)?;
@@ -223,9 +225,9 @@ fn add_perhaps(places: &mut Vec<Place>, draft: Option<&Draft>) -> Result<(), All
 
 /// Adds the statements of phrases.
 #[cycle(statement_places)]
-fn add_drafts(places: &mut Vec<Place>, drafts: &[Draft]) -> Result<(), AllocError>
+fn add_drafts(places: &mut Vec<Place>, drafts: &[&Draft]) -> Result<(), AllocError>
     ensures { OnOk result (places.new.items ≡ places.old.items
-        ++ nodes_statements (nodes_onto (map draft_view drafts.now) typed.no_nodes)) }
+        ++ nodes_statements (nodes_onto (map lent_view drafts.now) typed.no_nodes)) }
 {
     for draft in drafts {
         add_draft(places, draft)?;

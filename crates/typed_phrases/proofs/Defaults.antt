@@ -1,11 +1,12 @@
 -- A kind that is none of some, as the rules see it.
-use Rattle.std.proofs.Common.{◌≡◌, ℕ, Bool, true, false, List, [], Option, refl, sym, ap}
+use Rattle.std.proofs.Common.{◌≡◌, ℕ, Bool, true, false, List, [], Option, None, refl, sym, ap, ◌∙◌}
 use Rattle.std.specs.Borrow.{Bor}
 use Rattle.std.specs.declared.boxed.Box.{Box}
 use Rattle.std.specs.declared.alloc.Global.{Global}
 use Rattle.value_ops.specs.declared.places.Place.{Place}
 use Rattle.algolw_tree.specs.declared.phrases.Kind as code
-use Rattle.algolw_tree.specs.declared.phrases.Kind.{Kind}
+use Rattle.algolw_tree.specs.declared.phrases.Kind.{Kind, out-Kind, roll-Kind}
+use Rattle.algolw_tree.specs.declared.phrases.Applied.{Applied}
 use Rattle.algolw_tree.specs.declared.phrases.Listed.{Listed}
 use Rattle.algolw_tree.specs.declared.phrases.Chain.{Chain' as chain}
 use Rattle.algolw_tree.specs.declared.phrases.Conditional.{Conditional'}
@@ -20,10 +21,13 @@ use Rattle.algolw_typing.specs.Typed as typed
 use Rattle.algolw_typing.specs.Types.{Gives}
 use Rattle.algolw_typing.specs.Typing.{Out, given, left_of, no_variable_left, parts_of_kind, phrase_given, right_end_of, uncounted}
 use Rattle.typed_drafts.specs.declared.drafts.DraftKind as draft
-use Rattle.typed_drafts.specs.declared.drafts.DraftKind.{DraftKind, roll-DraftKind}
-use Rattle.typed_drafts.specs.declared.drafts.DraftActual.TheOpen as layer
-use Rattle.typed_drafts.specs.declared.drafts.Draft.{Draft}
-use Rattle.typed_drafts.specs.declared.drafts.DraftList.{DraftList}
+use Rattle.typed_drafts.specs.declared.drafts.DraftKind.{DraftKind, out-DraftKind, roll-DraftKind}
+use Rattle.typed_drafts.specs.declared.drafts.DraftApplied.{DraftApplied}
+use Rattle.typed_drafts.specs.declared.drafts.DraftListed.{DraftListed, DraftListed'}
+use Rattle.typed_drafts.specs.declared.drafts.DraftRelation.{DraftRelation'}
+use Rattle.typed_drafts.specs.declared.drafts.DraftClassTest.{DraftClassTest'}
+use Rattle.typed_drafts.specs.declared.drafts.DraftAssignment.{DraftAssignment, DraftAssignment'}
+use Rattle.typed_drafts.specs.declared.drafts.DraftRepetition.{DraftRepetition'}
 use Rattle.typed_drafts.specs.declared.drafts.DraftChain.{DraftChain'}
 use Rattle.typed_drafts.specs.declared.drafts.DraftIfThen.{DraftIfThen'}
 use Rattle.typed_drafts.specs.declared.drafts.DraftCaseValue.{DraftCaseValue'}
@@ -31,11 +35,13 @@ use Rattle.typed_drafts.specs.declared.drafts.DraftCaseDo.{DraftCaseDo'}
 use Rattle.typed_drafts.specs.declared.drafts.DraftForStep.{DraftForStep'}
 use Rattle.typed_drafts.specs.declared.drafts.DraftForList.{DraftForList'}
 use Rattle.typed_drafts.specs.DraftView.{kind_view}
+use Rattle.typed_drafts.proofs.KindRows.{assignment_at}
 
 -- ---- a phrase that no name begins
 
 abbrev pub begins_with_name : Kind → Bool
 begins_with_name (code.Named n) = true
+begins_with_name (code.Applied' q n place shape actuals) = true
 begins_with_name (code.Listed' q l) = true
 begins_with_name k = false
 
@@ -69,7 +75,7 @@ no_name_given path w p f k o h = given_at path w p f (kind_tree k) o (no_name k 
 -- ---- a draft that is no assignment
 
 abbrev pub assigns : DraftKind → Bool
-assigns (draft.Assign' q p f k g q2 p2 f2 k2 g2) = true
+assigns (draft.Assign' q a) = true
 assigns k = false
 
 abbrev is_assign : typed.Kind → Bool
@@ -77,12 +83,17 @@ is_assign (typed.Assign a b) = true
 is_assign k = false
 
 no_assign : (k : DraftKind) → assigns k ≡ false → is_assign (kind_view k) ≡ false
+no_assign (draft.Assign' q a) h = cc
+no_assign (draft.Listed' q (DraftListed' n slice shape lists)) h = refl
 no_assign (draft.Chain' q (DraftChain' q1 p f k g slice shape links)) h = refl
+no_assign (draft.Relation' q (DraftRelation' op q1 p f k g q2 p2 f2 k2 g2)) h = refl
+no_assign (draft.IsClass' q (DraftClassTest' q1 p f k g n at)) h = refl
 no_assign (draft.IfThen' q (DraftIfThen' q1 p f k g q2 p2 f2 k2 g2 otherwise)) h = refl
 no_assign (draft.CaseValue' q (DraftCaseValue' q1 p f k g slice shape values)) h = refl
 no_assign (draft.CaseDo' q (DraftCaseDo' q1 p f k g slice shape parts)) h = refl
 no_assign (draft.ForStep' q (DraftForStep' n q1 p f k g step q2 p2 f2 k2 g2 q3 p3 f3 k3 g3)) h = refl
 no_assign (draft.ForList' q (DraftForList' n slice shape values q1 p f k g)) h = refl
+no_assign (draft.WhileDo' q (DraftRepetition' q1 p f k g q2 p2 f2 k2 g2)) h = refl
 no_assign k h = h
 
 end_at : (g : Option Gives) (k : typed.Kind) → is_assign k ≡ false → g ≡ right_end_of g k
@@ -99,45 +110,48 @@ uncounted_at p f g s k h = refl
 pub counted_still : (p f : Place) (g : Option Gives) (s : Option Place) (k : DraftKind) → assigns k ≡ false → typed.At p f g s (kind_view k) ≡ uncounted (typed.At p f g s (kind_view k))
 counted_still p f g s k h = uncounted_at p f g s (kind_view k) (no_assign k h)
 
--- ---- a draft that is no name
+-- one that is
+pub assignment_uncounted : (p f : Place) (g : Option Gives) (s : Option Place) (k : DraftKind) (a : Bor DraftAssignment) → k ≡ draft.Assign a → typed.At p f g None (kind_view k) ≡ uncounted (typed.At p f g s (kind_view k))
+assignment_uncounted p f g s k a e =
+    ap (λ (z : typed.Kind). typed.At p f g None z) (assignment_at k a e) ∙ sym (ap (λ (z : typed.Kind). uncounted (typed.At p f g s z)) (assignment_at k a e))
 
-abbrev pub names : DraftKind → Bool
-names (draft.Named' n slice shape lists) = true
-names k = false
+-- ---- a draft that is no name with lists behind it
 
-abbrev is_named : typed.Kind → Bool
-is_named (typed.Named d lists) = true
-is_named k = false
+abbrev pub has_lists : DraftKind → Bool
+has_lists (draft.Applied' q n at slice shape actuals) = true
+has_lists (draft.Listed' q l) = true
+has_lists k = false
 
-no_named : (k : DraftKind) → names k ≡ false → is_named (kind_view k) ≡ false
-no_named (draft.Chain' q (DraftChain' q1 p f k g slice shape links)) h = refl
-no_named (draft.IfThen' q (DraftIfThen' q1 p f k g q2 p2 f2 k2 g2 otherwise)) h = refl
-no_named (draft.CaseValue' q (DraftCaseValue' q1 p f k g slice shape values)) h = refl
-no_named (draft.CaseDo' q (DraftCaseDo' q1 p f k g slice shape parts)) h = refl
-no_named (draft.ForStep' q (DraftForStep' n q1 p f k g step q2 p2 f2 k2 g2 q3 p3 f3 k3 g3)) h = refl
-no_named (draft.ForList' q (DraftForList' n slice shape values q1 p f k g)) h = refl
-no_named k h = h
-
-parts_at : (k : typed.Kind) → is_named k ≡ false → [] ≡ parts_of_kind k
-parts_at (typed.Named d lists) h = cc
-parts_at k h = refl
-
-pub no_parts_read : (k : DraftKind) → names k ≡ false → [] ≡ parts_of_kind (kind_view k)
-no_parts_read k h = parts_at (kind_view k) (no_named k h)
+pub no_parts_read : (k : DraftKind) → has_lists k ≡ false → [] ≡ parts_of_kind (kind_view k)
+no_parts_read (draft.Applied' q n at slice shape actuals) h = cc
+no_parts_read (draft.Listed' q l) h = cc
+no_parts_read (draft.Chain' q (DraftChain' q1 p f k g slice shape links)) h = refl
+no_parts_read (draft.Relation' q (DraftRelation' op q1 p f k g q2 p2 f2 k2 g2)) h = refl
+no_parts_read (draft.IsClass' q (DraftClassTest' q1 p f k g n at)) h = refl
+no_parts_read (draft.Assign' q (DraftAssignment' q1 p f k g q2 p2 f2 k2 g2)) h = refl
+no_parts_read (draft.IfThen' q (DraftIfThen' q1 p f k g q2 p2 f2 k2 g2 otherwise)) h = refl
+no_parts_read (draft.CaseValue' q (DraftCaseValue' q1 p f k g slice shape values)) h = refl
+no_parts_read (draft.CaseDo' q (DraftCaseDo' q1 p f k g slice shape parts)) h = refl
+no_parts_read (draft.ForStep' q (DraftForStep' n q1 p f k g step q2 p2 f2 k2 g2 q3 p3 f3 k3 g3)) h = refl
+no_parts_read (draft.ForList' q (DraftForList' n slice shape values q1 p f k g)) h = refl
+no_parts_read (draft.WhileDo' q (DraftRepetition' q1 p f k g q2 p2 f2 k2 g2)) h = refl
+no_parts_read k h = refl
 
 -- ---- which kinds these are
 
-pub no_name_begins : (k : Kind) → ((n : List ℕ) → k ≡ code.Named n → ⊥) → ((b : Box Listed Global) → k ≡ code.Listed b → ⊥) → begins_with_name k ≡ false
-no_name_begins (code.Named n) named listed = absurd (named n refl)
-no_name_begins (code.Listed' q l) named listed = absurd (listed (record { ptr = q.ptr; alloc = q.alloc; value = l }) refl)
-no_name_begins k named listed = refl
+pub no_name_begins : (k : Kind) → ((n : List ℕ) → k ≡ code.Named n → ⊥) → ((b : Box Applied Global) → k ≡ code.Applied b → ⊥) → ((b : Box Listed Global) → k ≡ code.Listed b → ⊥) → begins_with_name k ≡ false
+unfolding out-Kind roll-Kind denote.Hole.Carrier.out denote.Hole.Carrier.roll
+no_name_begins (code.Named n) named applied listed = absurd (named n refl)
+no_name_begins (code.Applied' q n place shape actuals) named applied listed = absurd (applied _ (sym (code.roll-out-Kind (code.Applied' q n place shape actuals))))
+no_name_begins (code.Listed' q l) named applied listed = absurd (listed (record { ptr = q.ptr; alloc = q.alloc; value = l }) refl)
+no_name_begins k named applied listed = refl
 
-pub no_assignment : (k : DraftKind) → ((a b : Bor Draft) → k ≡ draft.Assign a b → ⊥) → assigns k ≡ false
-no_assignment (draft.Assign' q p f k g q2 p2 f2 k2 g2) assigned =
-    absurd (assigned (record { ref_ptr = q.ref_ptr; now = record { place = p; first = f; kind = k; gives = g } }) (record { ref_ptr = q2.ref_ptr; now = record { place = p2; first = f2; kind = k2; gives = g2 } }) refl)
+pub no_assignment : (k : DraftKind) → ((a : Bor DraftAssignment) → k ≡ draft.Assign a → ⊥) → assigns k ≡ false
+no_assignment (draft.Assign' q a) assigned = absurd (assigned (record { ref_ptr = q.ref_ptr; now = a }) refl)
 no_assignment k assigned = refl
 
-pub no_name_drafted : (k : DraftKind) → ((n : Place) (v : Bor (List DraftList)) → k ≡ draft.Named n v → ⊥) → names k ≡ false
-unfolding roll-DraftKind denote.Hole.Carrier.roll
-no_name_drafted k named =
-    (elim (draft.out-DraftKind k) as (λ o. draft.roll-DraftKind o ≡ k → names k ≡ false) [ layer.Named n v ↦ λ e. absurd (named n v (sym e)) | layer.DraftKind::Empty ↦ λ e. ap names (sym e) | layer.Null ↦ λ e. ap names (sym e) | layer.Number x0 ↦ λ e. ap names (sym e) | layer.Truth x0 ↦ λ e. ap names (sym e) | layer.BitsLit x0 ↦ λ e. ap names (sym e) | layer.Quoted x0 ↦ λ e. ap names (sym e) | layer.Negated x0 ↦ λ e. ap names (sym e) | layer.Abs x0 ↦ λ e. ap names (sym e) | layer.Signed x0 x1 ↦ λ e. ap names (sym e) | layer.Chain x0 ↦ λ e. ap names (sym e) | layer.Relation x0 x1 x2 ↦ λ e. ap names (sym e) | layer.IsClass x0 x1 x2 ↦ λ e. ap names (sym e) | layer.Assign x0 x1 ↦ λ e. ap names (sym e) | layer.IfThen x0 ↦ λ e. ap names (sym e) | layer.CaseValue x0 ↦ λ e. ap names (sym e) | layer.CaseDo x0 ↦ λ e. ap names (sym e) | layer.ForStep x0 ↦ λ e. ap names (sym e) | layer.ForList x0 ↦ λ e. ap names (sym e) | layer.WhileDo x0 x1 ↦ λ e. ap names (sym e) | layer.Goto x0 ↦ λ e. ap names (sym e) | layer.Assert x0 ↦ λ e. ap names (sym e) | layer.Block x0 ↦ λ e. ap names (sym e) ]) (draft.roll-out-DraftKind k)
+pub no_lists_behind : (k : DraftKind) → ((a : Bor DraftApplied) → k ≡ draft.Applied a → ⊥) → ((l : Bor DraftListed) → k ≡ draft.Listed l → ⊥) → has_lists k ≡ false
+unfolding out-DraftKind roll-DraftKind denote.Hole.Carrier.out denote.Hole.Carrier.roll
+no_lists_behind (draft.Applied' q n at slice shape actuals) applied listed = absurd (applied _ (sym (draft.roll-out-DraftKind (draft.Applied' q n at slice shape actuals))))
+no_lists_behind (draft.Listed' q l) applied listed = absurd (listed (record { ref_ptr = q.ref_ptr; now = l }) refl)
+no_lists_behind k applied listed = refl

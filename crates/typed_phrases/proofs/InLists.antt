@@ -13,12 +13,14 @@ use Rattle.algolw_typing.specs.Names.{declared}
 use Rattle.algolw_typing.specs.Scopes.{Scopes}
 use Rattle.algolw_typing.specs.Typed as typed
 use Rattle.algolw_typing.specs.Typing.{Out, given, meaning_of, name_given, list_given, phrase_given, variable_name, left_of, left_name, part_of_node, parts_of_actuals, parts_of_kind, parts_of_lists}
-use Rattle.typed_drafts.specs.declared.drafts.DraftKind.{DraftKind, Named}
+use Rattle.typed_drafts.specs.declared.drafts.DraftKind.{DraftKind, Applied, Listed as a_listed}
+use Rattle.typed_drafts.specs.declared.drafts.DraftApplied.{DraftApplied}
+use Rattle.typed_drafts.specs.declared.drafts.DraftListed.{DraftListed, out-DraftListed}
 use Rattle.typed_drafts.specs.declared.drafts.DraftList.{DraftList}
-use Rattle.typed_drafts.specs.DraftView.{kind_view}
+use Rattle.typed_drafts.specs.DraftView.{actual_view, kind_view}
 use Rattle.typed_drafts.specs.DraftParts.{list_view}
 use Rattle.typed_drafts.specs.Onto.{actuals_onto, lists_onto}
-use Rattle.typed_drafts.proofs.DraftRows.{slice_lists}
+use Rattle.typed_drafts.proofs.KindRows.{applied_at, listed_at}
 use Rattle.typed_phrases.specs.Fronts.{of_actuals, part_of_actual, parts_of_listing}
 use Rattle.algolw_tree.proofs.Rows.{listed_is}
 
@@ -78,19 +80,20 @@ parts_onto [] = refl
 parts_onto (typed.Star q ∷ xs) = ap (λ (ps : List Part). a_star ∷ ps) (parts_onto xs)
 parts_onto (typed.Given n ∷ xs) = ap (λ (ps : List Part). part_of_node n ∷ ps) (parts_onto xs)
 
-first_parts : (xs : List DraftList) (x : DraftList) → 0 < length xs → x ≡ get_or xs 0 x → parts_of_lists (lists_onto (map list_view xs) typed.no_lists) ≡ parts_of_listing (list_view x)
+pub first_parts : (xs : List DraftList) (x : DraftList) → 0 < length xs → x ≡ get_or xs 0 x → parts_of_lists (lists_onto (map list_view xs) typed.no_lists) ≡ parts_of_listing (list_view x)
 first_parts [] x h i = absurd (omega (arith, h))
 first_parts (y ∷ xs) x h i = by_view (list_view y) (lists_onto (map list_view xs) typed.no_lists) ∙ ap (λ (z : DraftList). parts_of_listing (list_view z)) (sym i) where
   by_view : (l : typed.Listing) (lists : typed.Lists) → parts_of_lists (typed.list_and l lists) ≡ parts_of_listing l
   by_view (typed.OfActuals q _) lists = refl
   by_view (typed.OfPart q a n) lists = refl
 
--- the parts of the first list behind a name, where there is one
-pub no_parts : (k : DraftKind) (p : Place) (v : Bor (List DraftList)) → k ≡ Named p v → length v.now ≡ 0 → parts_of_kind (kind_view k) ≡ []
-no_parts k p v e h = ap (λ z. parts_of_kind (kind_view z)) e ∙ ap parts_of_lists (slice_lists v.now) ∙ by_items v.now h where
-  by_items : (xs : List DraftList) → length xs ≡ 0 → parts_of_lists (lists_onto (map list_view xs) typed.no_lists) ≡ []
-  by_items [] h = refl
-  by_items (x ∷ xs) h = absurd (omega (arith, h))
+pub no_parts : (xs : List DraftList) → length xs ≡ 0 → parts_of_lists (lists_onto (map list_view xs) typed.no_lists) ≡ []
+no_parts [] h = refl
+no_parts (x ∷ xs) h = absurd (omega (arith, h))
 
-pub named_parts : (k : DraftKind) (p : Place) (v : Bor (List DraftList)) (x : DraftList) → k ≡ Named p v → 0 < length v.now → x ≡ get_or v.now 0 x → parts_of_kind (kind_view k) ≡ parts_of_listing (list_view x)
-named_parts k p v x e h i = ap (λ z. parts_of_kind (kind_view z)) e ∙ ap parts_of_lists (slice_lists v.now) ∙ first_parts v.now x h i
+-- the parts of the one list behind a name, and those of the first of several
+pub applied_parts : (k : DraftKind) (a : Bor DraftApplied) → k ≡ Applied a → parts_of_kind (kind_view k) ≡ map part_of_actual (map actual_view a.now.actuals.now)
+applied_parts k a e = ap parts_of_kind (applied_at k a e) ∙ parts_onto (map actual_view a.now.actuals.now)
+
+pub listed_parts : (k : DraftKind) (l : Bor DraftListed) → k ≡ a_listed l → parts_of_kind (kind_view k) ≡ parts_of_kind (typed.Named (out-DraftListed l.now).name (lists_onto (map list_view (out-DraftListed l.now).lists.now) typed.no_lists))
+listed_parts k l e = ap parts_of_kind (listed_at k l e)

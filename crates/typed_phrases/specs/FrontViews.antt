@@ -1,5 +1,7 @@
 -- What stands before a list, the lists behind a name and the parts of a list, as the rules see them.
-use Rattle.std.specs.Prelude.{ℕ, List, [], map}
+use Rattle.std.specs.Prelude.{ℕ, List, [], Option, map}
+use Rattle.value_ops.specs.declared.places.Place.{Place}
+use Rattle.declared_names.specs.declared.known.Known as code_known
 use Rattle.std.specs.Option.{option_map}
 use Rattle.algolw_typing.specs.Typed as typed
 use Rattle.algolw_typing.specs.Typing.{PartOut, PartsOut, ListsOut}
@@ -9,7 +11,7 @@ use Rattle.typing_rules.specs.MeaningView.{part}
 use Rattle.typed_drafts.specs.DraftView.{draft_view, actual_view}
 use Rattle.typed_drafts.specs.DraftParts.{list_view}
 use Rattle.typed_drafts.specs.Onto.{actuals_onto, lists_onto}
-use Rattle.typed_phrases.specs.Fronts.{Front, a_name, complete, front_alone}
+use Rattle.typed_phrases.specs.Fronts.{Front, a_name, complete, front_alone, front_list}
 use Rattle.declared_names.specs.KnownView.{entry_of}
 use Rattle.typed_phrases.specs.declared.designators.Front as code
 use Rattle.typed_phrases.specs.declared.designators.Front.TheVariants as front
@@ -31,3 +33,9 @@ parts_view f = record { inside = []; parts = map part f.parts.items; actuals = a
 
 abbrev pub lists_view : List ℕ → Lists → ListsOut
 lists_view x f = record { inside = []; verdict = front_alone (front_view x f.front); lists = lists_onto (map list_view f.drafts.items) typed.no_lists }
+
+-- one list of actuals behind a name at a place, which opens at another
+abbrev pub applied_view : List ℕ → Place → Option code_known.Known → Place → Parts → ListsOut
+applied_view x at target opening f =
+    let parts = parts_view f in
+    record { inside = []; verdict = front_list opening (a_name at (option_map (entry_of x) target)) parts.parts; lists = typed.list_and (typed.OfActuals opening parts.actuals) typed.no_lists }

@@ -10,13 +10,13 @@ ghost use Rattle.typing_rules.specs.MeaningView as view;
 ghost use Rattle.typed_drafts.specs.DraftView.{actual_view, draft_view, kind_view};
 ghost use Rattle.typed_phrases.specs.Found.{found_view};
 ghost use Rattle.typed_drafts.specs.DraftParts.{list_view};
+ghost use Rattle.typed_drafts.specs.Onto.{lists_onto};
 ghost use Rattle.typed_phrases.specs.Fronts.{of_actuals, part_of_actual, parts_of_listing};
 ghost use Rattle.typed_phrases.specs.FrontViews.{given_out};
 
 use crate::making::{Typed, given};
 use algolw_tree::{Kind, List, ListKind, Listed, Phrase};
 use bumpalo::Bump;
-use bumpalo::collections::into_bump_slice;
 use declared_names::{KnownPath, meaning_of};
 use std::alloc::{AllocError, Global};
 use typed_drafts::{Draft, DraftActual, DraftGives, DraftKind, DraftList, DraftListKind};
@@ -39,7 +39,7 @@ pub struct Given<'a> {
 /// What is found of the parts of a list.
 #[derive(Drop)]
 pub struct Parts<'a> {
-    /// What each is read as. It is wanted no more when the list is judged, so it isn't in the arena.
+    /// What each is read as. It isn't wanted once the list is judged, so it isn't in the arena.
     pub parts: Vec<Part<'a>>,
     /// The parts.
     pub drafts: Vec<DraftActual<'a>, &'a Bump>,
@@ -72,7 +72,7 @@ fn read_as<'a>(arena: &'a Bump, part: Part<'a>, found: Typed<'a>) -> Result<Give
     ensures { IfOk result (λ g. given_out g ≡ rules.read_as (view.part part.entry) (found_view found.entry)) }
 {
     match part {
-        Part::Phrase(_, _) | Part::Typeless => Ok(Given {
+        Part::Statement(_) | Part::Value(_, _) | Part::Typeless => Ok(Given {
             verdict: found.verdict,
             part,
             draft: found.draft,
@@ -111,48 +111,58 @@ fn part_of<'a>(actual: &DraftActual<'a>) -> Part<'a>
     }
 }
 
-/// What the parts of a list are read as, by what they give as phrases, in the arena.
+/// What the parts of a list are read as, by what they give as phrases.
 fn parts_of_list<'a>(
-    arena: &'a Bump,
+    alloc: Global,
     actuals: &[DraftActual<'a>],
-) -> Result<&'a [Part<'a>], AllocError>
-    ensures { IfOk result (λ parts. map view.part parts.now
+) -> Result<Vec<Part<'a>>, AllocError>
+    ensures { IfOk result (λ parts. map view.part parts.items
         ≡ map part_of_actual (map actual_view actuals.now)) }
 {
-    let mut parts = Vec::with_capacity(arena, actuals.len())?;
+    let mut parts = Vec::with_capacity(alloc, actuals.len())?;
     for actual in actuals {
         parts.push(part_of(actual))?;
     }
-    Ok(into_bump_slice(parts))
+    Ok(parts)
 }
 
 /// What the parts of a list behind a name are read as, by what they give as phrases: a substring list has none.
 #[tactic(auto, using(typed_drafts::proofs::DraftRows::slice_actuals, crate::proofs::InLists::parts_onto))]
-fn parts_of_first<'a>(arena: &'a Bump, list: &DraftList<'a>) -> Result<&'a [Part<'a>], AllocError>
-    ensures { IfOk result (λ parts. map view.part parts.now ≡ parts_of_listing (list_view list.now)) }
+fn parts_of_first<'a>(alloc: Global, list: &DraftList<'a>) -> Result<Vec<Part<'a>>, AllocError>
+    ensures { IfOk result (λ parts. map view.part parts.items ≡ parts_of_listing (list_view list.now)) }
 {
     match &list.kind {
-        DraftListKind::Actuals(actuals) => parts_of_list(arena, actuals),
-        DraftListKind::Part(_, _) => Ok(&[]),
+        DraftListKind::Actuals(actuals) => parts_of_list(alloc, actuals),
+        DraftListKind::Part(_, _) => Ok(Vec::new(alloc)),
+    }
+}
+
+/// What the parts of the first of the lists behind a name are read as, by what they give as phrases.
+fn parts_of_lists<'a>(alloc: Global, lists: &[DraftList<'a>]) -> Result<Vec<Part<'a>>, AllocError>
+    ensures { (name : Place) → IfOk result (λ parts. map view.part parts.items
+        ≡ rules.parts_of_kind (typed.Named name (lists_onto (map list_view lists.now) typed.no_lists))) }
+{
+    match lists.first() {
+        None => Ok(Vec::new(alloc)),
+        Some(list) => parts_of_first(alloc, list),
     }
 }
 
 /// What the parts of the first list behind a name are read as, by what they give as phrases.
-fn parts_of<'a>(arena: &'a Bump, draft: &Draft<'a>) -> Result<&'a [Part<'a>], AllocError>
-    ensures { IfOk result (λ parts. map view.part parts.now
+fn parts_of<'a>(alloc: Global, draft: &Draft<'a>) -> Result<Vec<Part<'a>>, AllocError>
+    ensures { IfOk result (λ parts. map view.part parts.items
         ≡ rules.parts_of_kind (kind_view draft.now.kind)) }
 {
-    let DraftKind::Named(_, lists) = &draft.kind else {
-        return Ok(&[]);
-    };
-    match lists.first() {
-        None => Ok(&[]),
-        Some(list) => parts_of_first(arena, list),
+    match &draft.kind {
+        DraftKind::Applied(applied) => parts_of_list(alloc, applied.actuals),
+        DraftKind::Listed(listed) => parts_of_lists(alloc, listed.lists),
+        _ => Ok(Vec::new(alloc)),
     }
 }
 
 /// The name of an array of so many dimensions with a list behind it: a subarray where its parts say so.
 fn array_given<'a>(
+    alloc: Global,
     arena: &'a Bump,
     place: Place,
     wanted: Wanted<'a>,
@@ -164,15 +174,18 @@ fn array_given<'a>(
         (types.value_type element.entry) dimensions
         (rules.parts_of_kind (kind_view found.entry.draft.now.kind)) (found_view found.entry)) }
 {
-    let parts = parts_of(arena, found.draft)?;
-    if !wanted.is_subarray(parts) {
+    let parts = parts_of(alloc, found.draft)?;
+    if !wanted.is_subarray(&parts) {
         return Ok(phrase_given(true, found));
     }
-    let verdict = subarray_row(place, dimensions, parts);
+    let verdict = subarray_row(place, dimensions, &parts);
+    let part = subarray_part(wanted, element, &parts, verdict);
+    drop(parts);
+    let draft = untyped(arena, found.draft)?;
     Ok(Given {
         verdict,
-        part: subarray_part(wanted, element, parts, verdict),
-        draft: untyped(arena, found.draft)?,
+        part,
+        draft,
     })
 }
 
@@ -188,6 +201,7 @@ fn is_variable(means: Option<Meaning<'_>>) -> bool
 
 /// A name with a list behind it.
 fn list_given<'a>(
+    alloc: Global,
     arena: &'a Bump,
     place: Place,
     wanted: Wanted<'a>,
@@ -199,7 +213,7 @@ fn list_given<'a>(
 {
     match means {
         Some(Meaning::Array(element, dimensions)) => {
-            array_given(arena, place, wanted, element, dimensions, found)
+            array_given(alloc, arena, place, wanted, element, dimensions, found)
         }
         _ => Ok(phrase_given(is_variable(means), found)),
     }
@@ -214,6 +228,7 @@ fn is_of_actuals(list: &List) -> bool
 
 /// A name and the lists behind it in a list, as what is wanted there.
 fn listed_given<'a>(
+    alloc: Global,
     arena: &'a Bump,
     path: &KnownPath<'_, '_, 'a>,
     place: Place,
@@ -228,7 +243,7 @@ fn listed_given<'a>(
     match listed.lists.first() {
         None => name_given(arena, wanted, means, found),
         Some(list) if listed.lists.len() == 1 && is_of_actuals(list) => {
-            list_given(arena, place, wanted, means, found)
+            list_given(alloc, arena, place, wanted, means, found)
         }
         Some(_) => Ok(phrase_given(is_variable(means), found)),
     }
@@ -236,6 +251,7 @@ fn listed_given<'a>(
 
 /// A phrase in a list, as what is wanted there.
 pub fn read<'a>(
+    alloc: Global,
     arena: &'a Bump,
     path: &KnownPath<'_, '_, 'a>,
     wanted: Wanted<'a>,
@@ -247,10 +263,22 @@ pub fn read<'a>(
 {
     match &phrase.kind {
         Kind::Named(name) => {
-            let means = meaning_of(path.declared(name));
+            let means = meaning_of(path.declared(&name.spelling()));
             name_given(arena, wanted, means, found)
         }
-        Kind::Listed(listed) => listed_given(arena, path, phrase.place, wanted, listed, found),
+        Kind::Applied(applied) => {
+            let means = meaning_of(path.declared(&applied.name.spelling()));
+            list_given(alloc, arena, phrase.place, wanted, means, found)
+        }
+        Kind::Listed(listed) => listed_given(
+            alloc,
+            arena,
+            path,
+            phrase.place,
+            wanted,
+            listed,
+            found,
+        ),
         _ => Ok(phrase_given(false, found)),
     }
 }

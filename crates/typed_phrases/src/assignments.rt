@@ -15,7 +15,7 @@ use algolw_tree::{Kind, Phrase};
 use bumpalo::Bump;
 use declared_names::{KnownPath, meaning_of};
 use std::alloc::AllocError;
-use typed_drafts::{Draft, DraftKind};
+use typed_drafts::{Draft, DraftAssignment, DraftKind};
 use typing_rules::{Left, Meaning, NoType, PhraseType, Verdict, assign_row};
 use value_ops::Place;
 
@@ -35,7 +35,8 @@ pub fn left_of(path: &KnownPath, phrase: &Phrase) -> Left
     ensures { left_view result ≡ rules.left_of path.now (tree phrase.now) }
 {
     match &phrase.kind {
-        Kind::Named(name) => left_name(meaning_of(path.declared(name))),
+        Kind::Named(name) => left_name(meaning_of(path.declared(&name.spelling()))),
+        Kind::Applied(applied) => left_name(meaning_of(path.declared(&applied.name.spelling()))),
         Kind::Listed(listed) => left_name(meaning_of(path.declared(&listed.name))),
         _ => Left::NoVariable,
     }
@@ -46,7 +47,7 @@ fn right_end<'a>(draft: &Draft<'a>) -> Option<PhraseType<'a>>
     ensures { given_view result ≡ rules.right_end (draft_view draft.now) }
 {
     match &draft.kind {
-        DraftKind::Assign(_, right) => right_end(right),
+        DraftKind::Assign(assignment) => right_end(assignment.value),
         _ => draft.gives.phrase_type(),
     }
 }
@@ -55,7 +56,7 @@ fn right_end<'a>(draft: &Draft<'a>) -> Option<PhraseType<'a>>
 fn uncounted<'a>(arena: &'a Bump, draft: &'a Draft<'a>) -> Result<&'a Draft<'a>, AllocError>
     ensures { IfOk result (λ d. draft_view d.now ≡ rules.uncounted (draft_view draft.now)) }
 {
-    let DraftKind::Assign(_, _) = draft.kind else {
+    let DraftKind::Assign(_) = draft.kind else {
         return Ok(draft);
     };
     let draft = arena.try_alloc(Draft {
@@ -84,6 +85,7 @@ fn assigned_verdict<'a>(
 }
 
 /// An assignment to what stands at its left.
+#[tactic(auto, using(typed_drafts::proofs::KindRows::assignment_of))]
 pub fn assigned<'a>(
     spot: Spot<'a>,
     left: Left,
@@ -96,5 +98,9 @@ pub fn assigned<'a>(
     let end = right_end(value.draft);
     let verdict = assigned_verdict(spot.place, left, target.verdict, value.verdict, end);
     let value = uncounted(spot.arena, value.draft)?;
-    made(spot, verdict, DraftKind::Assign(target.draft, value))
+    let assignment = spot.arena.try_alloc(DraftAssignment {
+        target: target.draft,
+        value,
+    })?;
+    made(spot, verdict, DraftKind::Assign(assignment))
 }

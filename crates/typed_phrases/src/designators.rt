@@ -10,7 +10,7 @@ ghost use Rattle.typed_drafts.specs.DraftView.{draft_view};
 ghost use Rattle.typed_drafts.specs.DraftParts.{list_view};
 ghost use Rattle.typed_phrases.specs.Found.{Finds};
 ghost use Rattle.typed_phrases.specs.Fronts as fronts;
-ghost use Rattle.typed_phrases.specs.FrontViews.{front_view, lists_view, parts_view};
+ghost use Rattle.typed_phrases.specs.FrontViews.{applied_view, front_view, lists_view, parts_view};
 ghost use Rattle.declared_names.specs.KnownView.{entry_of};
 
 use crate::actuals::Parts;
@@ -20,7 +20,7 @@ use bumpalo::Bump;
 use bumpalo::collections::into_bump_slice;
 use declared_names::{Known, KnownPath, place_of};
 use std::alloc::AllocError;
-use typed_drafts::{DraftKind, DraftList, DraftListKind};
+use typed_drafts::{DraftApplied, DraftKind, DraftList, DraftListKind, DraftListed};
 use typing_rules::{
     NoType, Part, Reading, Verdict, all_read, alone_row, base_row, list_row, part_row,
 };
@@ -228,11 +228,10 @@ pub fn name_alone<'a>(
 {
     let target = path.declared(name);
     let verdict = Front::Name(spot.place, target).alone(spot.arena)?;
-    made(spot, verdict, DraftKind::Named(place_of(target), &[]))
+    made(spot, verdict, DraftKind::Named(place_of(target)))
 }
 
 /// A name with the lists behind it.
-#[tactic(auto, using(typed_drafts::proofs::DraftRows::slice_lists))]
 pub fn named<'a>(
     spot: Spot<'a>,
     target: Option<Known<'a>>,
@@ -241,7 +240,33 @@ pub fn named<'a>(
     ensures { IfOk result (λ t. (x : List ℕ) → Finds t (rules.named_out spot.entry.place
         spot.entry.first (option_map (entry_of x) target.entry) (lists_view x found.entry))) }
 {
-    let kind = DraftKind::Named(place_of(target), into_bump_slice(found.drafts));
+    let listed = spot.arena.try_alloc(DraftListed {
+        name: place_of(target),
+        lists: into_bump_slice(found.drafts),
+    })?;
     let verdict = found.front.alone(spot.arena)?;
-    made(spot, verdict, kind)
+    made(spot, verdict, DraftKind::Listed(listed))
+}
+
+/// A name with one list of actuals behind it, at a place.
+pub fn applied<'a>(
+    spot: Spot<'a>,
+    target: Option<Known<'a>>,
+    place: Place,
+    found: Parts<'a>,
+) -> Result<Typed<'a>, AllocError>
+    ensures { IfOk result (λ t. (x : List ℕ) → Finds t (rules.named_out spot.entry.place
+        spot.entry.first (option_map (entry_of x) target.entry)
+        (applied_view x spot.entry.place target.entry place found.entry))) }
+{
+    let Parts { parts, drafts } = found;
+    let actuals = into_bump_slice(drafts);
+    let front = Front::Name(spot.place, target);
+    let verdict = front.with_list(spot.arena, place, &parts)?;
+    let applied = spot.arena.try_alloc(DraftApplied {
+        name: place_of(target),
+        place,
+        actuals,
+    })?;
+    made(spot, verdict, DraftKind::Applied(applied))
 }

@@ -13,7 +13,7 @@ mod statements;
 pub use actuals::{Given, Parts, read};
 pub use assignments::{assigned, left_of};
 pub use cases::{Cases, case_do};
-pub use designators::{Front, Lists, name_alone, named};
+pub use designators::{Front, Lists, applied, name_alone, named};
 pub use items::{Items, block, has_labels, item_verdict, labelled};
 pub use making::{Links, Phrases, Spot, Typed, chained, empty, leaf, noted, quoted, relation};
 pub use prefixes::{Prefix, prefixed};

@@ -1,4 +1,4 @@
-ghost use Rattle.std.specs.Prelude.{◌≡◌, ◌∷◌, ◌++◌, [], IfOk, OnOk, length, map};
+ghost use Rattle.std.specs.Prelude.{◌≡◌, ◌∷◌, ◌++◌, [], Some, IfOk, OnOk, length, map};
 ghost use Rattle.algolw_typing.specs.Typing as rules;
 ghost use Rattle.algolw_typing.specs.Typed as typed;
 ghost use Rattle.algolw_typing.specs.Types as types;
@@ -6,14 +6,15 @@ ghost use Rattle.algolw_typing.specs.Rows.{integer_row, link_row, negated_row, r
 ghost use Rattle.algolw_typing.specs.Verdicts.{part, two_parts, type_of};
 ghost use Rattle.typing_rules.specs.View as view;
 ghost use Rattle.typed_drafts.specs.DraftView.{counted_view, draft_view, gives_view, kind_view, link_view};
-ghost use Rattle.typed_phrases.specs.FoundParts.{given_view, links_view};
+ghost use Rattle.typed_drafts.specs.DraftParts.{lent_view};
+ghost use Rattle.typed_phrases.specs.FoundParts.{all_view, given_view, links_view, with_one_more};
 ghost use Rattle.typed_phrases.specs.Found.{Finds, found_view};
 
 use algolw_tree::{Op, RelOp};
 use bumpalo::Bump;
 use bumpalo::collections::into_bump_slice;
 use std::alloc::{AllocError, Global};
-use typed_drafts::{Draft, DraftChain, DraftGives, DraftKind, DraftLink};
+use typed_drafts::{Draft, DraftChain, DraftGives, DraftKind, DraftLink, DraftRelation, DraftText};
 use typing_rules::{
     NoType, PhraseType, ValueType, Verdict, integer_row, link_row, negated_row, relation_row,
 };
@@ -42,10 +43,10 @@ pub struct Typed<'a> {
 /// What is found of phrases in a row.
 #[derive(Drop)]
 pub struct Phrases<'a> {
-    /// What each gives, where it has a type.
-    pub gives: Vec<Option<PhraseType<'a>>, &'a Bump>,
+    /// What they give, where each has a type. It isn't wanted once they are judged, so it isn't in the arena.
+    pub gives: Option<Vec<PhraseType<'a>>>,
     /// The phrases.
-    pub drafts: Vec<Draft<'a>, &'a Bump>,
+    pub drafts: Vec<&'a Draft<'a>, &'a Bump>,
 }
 
 /// What is found of the links of a chain.
@@ -65,15 +66,15 @@ pub(crate) fn given(verdict: Verdict<'_>) -> Option<PhraseType<'_>>
 }
 
 /// What a draft with this verdict gives. A statement is counted.
-fn draft_gives<'a>(arena: &'a Bump, verdict: Verdict<'a>) -> Result<DraftGives<'a>, AllocError>
-    ensures gives { IfOk result (λ g. gives_view g ≡ type_of (view.verdict verdict.entry)) }
-    ensures counted { (first : Place) → IfOk result (λ g. counted_view first g
-        ≡ rules.counted first (view.verdict verdict.entry)) }
+fn draft_gives(verdict: Verdict<'_>) -> DraftGives<'_>
+    ensures gives { gives_view result ≡ type_of (view.verdict verdict.entry) }
+    ensures counted { (first : Place) → counted_view first result
+        ≡ rules.counted first (view.verdict verdict.entry) }
 {
     match verdict {
-        Ok(PhraseType::Statement) => Ok(DraftGives::Counted),
-        Ok(PhraseType::Value(of)) => DraftGives::value(arena, of),
-        Err(_) => Ok(DraftGives::Untyped),
+        Ok(PhraseType::Statement) => DraftGives::Counted,
+        Ok(PhraseType::Value(of)) => DraftGives::value(of),
+        Err(_) => DraftGives::Untyped,
     }
 }
 
@@ -86,12 +87,11 @@ pub(crate) fn made<'a>(
     ensures { IfOk result (λ t. Finds t (rules.out [] spot.entry.place spot.entry.first
         (view.verdict verdict.entry) (kind_view kind.entry))) }
 {
-    let gives = draft_gives(spot.arena, verdict)?;
     let draft = spot.arena.try_alloc(Draft {
         place: spot.place,
         first: spot.first,
         kind,
-        gives,
+        gives: draft_gives(verdict),
     })?;
     Ok(Typed { verdict, draft })
 }
@@ -132,7 +132,8 @@ pub fn quoted<'a>(spot: Spot<'a>, text: &[u8]) -> Result<Typed<'a>, AllocError>
     let Ok(length) = u32::try_from(text.len()) else {
         return Err(AllocError);
     };
-    let text = spot.arena.try_alloc_slice_copy(text)?;
+    let characters = spot.arena.try_alloc_slice_copy(text)?;
+    let text = spot.arena.try_alloc(DraftText { characters })?;
     leaf(spot, ValueType::Str(length), DraftKind::Quoted(text))
 }
 
@@ -172,6 +173,7 @@ fn relation_verdict<'a>(
 }
 
 /// A comparison.
+#[tactic(auto, using(typed_drafts::proofs::KindRows::relation_of))]
 pub fn relation<'a>(
     spot: Spot<'a>,
     op: RelOp,
@@ -182,11 +184,12 @@ pub fn relation<'a>(
         (found_view left.entry) (found_view right.entry))) }
 {
     let verdict = relation_verdict(spot.place, op, left.verdict, right.verdict);
-    made(
-        spot,
-        verdict,
-        DraftKind::Relation(op, left.draft, right.draft),
-    )
+    let relation = spot.arena.try_alloc(DraftRelation {
+        op,
+        left: left.draft,
+        right: right.draft,
+    })?;
+    made(spot, verdict, DraftKind::Relation(relation))
 }
 
 /// The verdict of a phrase behind ABS or a sign, by that of the phrase.
@@ -261,27 +264,48 @@ pub fn chained<'a>(
 
 impl<'a> Phrases<'a> {
     /// No phrases, with room for so many.
-    pub fn with_capacity(arena: &'a Bump, count: usize) -> Result<Phrases<'a>, AllocError>
-        ensures gives { IfOk result (λ phrases. phrases.gives.items ≡ []) }
+    pub fn with_capacity(
+        alloc: Global,
+        arena: &'a Bump,
+        count: usize,
+    ) -> Result<Phrases<'a>, AllocError>
+        ensures gives { IfOk result (λ phrases. all_view phrases.gives ≡ Some []) }
         ensures drafts { IfOk result (λ phrases. phrases.drafts.items ≡ []) }
     {
         Ok(Phrases {
-            gives: Vec::with_capacity(arena, count)?,
+            gives: Some(Vec::with_capacity(alloc, count)?),
             drafts: Vec::with_capacity(arena, count)?,
         })
     }
 
     /// Adds a phrase.
     pub fn add(&mut self, typed: Typed<'a>) -> Result<(), AllocError>
-        ensures gives { OnOk result (map given_view self.new.gives.items
-            ≡ map given_view self.old.gives.items ++ type_of (view.verdict typed.entry.verdict) ∷ []) }
-        ensures drafts { OnOk result (map draft_view self.new.drafts.items
-            ≡ map draft_view self.old.drafts.items ++ draft_view typed.entry.draft.now ∷ []) }
+        ensures gives { OnOk result (all_view self.new.gives
+            ≡ with_one_more (all_view self.old.gives) (type_of (view.verdict typed.entry.verdict))) }
+        ensures drafts { OnOk result (map lent_view self.new.drafts.items
+            ≡ map lent_view self.old.drafts.items ++ draft_view typed.entry.draft.now ∷ []) }
     {
-        self.gives.push(given(typed.verdict))?;
-        self.drafts.push(*typed.draft)?;
+        add_given(&mut self.gives, given(typed.verdict))?;
+        self.drafts.push(typed.draft)?;
         Ok(())
     }
+}
+
+/// Adds what one more phrase gives to what those before it give, where each has a type.
+fn add_given<'a>(
+    all: &mut Option<Vec<PhraseType<'a>>>,
+    gives: Option<PhraseType<'a>>,
+) -> Result<(), AllocError>
+    ensures { OnOk result (all_view all.new ≡ with_one_more (all_view all.old) (given_view gives.entry)) }
+{
+    let Some(gives) = gives else {
+        *all = None;
+        return Ok(());
+    };
+    if let Some(all) = all {
+        all.push(gives)?;
+    }
+    Ok(())
 }
 
 impl<'a> Links<'a> {

@@ -1,4 +1,4 @@
-ghost use Rattle.std.specs.Prelude.{◌≡◌, ℕ, ◌++◌, List, IfOk, OnOk, map};
+ghost use Rattle.std.specs.Prelude.{◌≡◌, ℕ, List, Option, IfOk};
 ghost use Rattle.std.specs.Option.{option_map};
 ghost use Rattle.algolw_tree.specs.Tree.{Placed};
 ghost use Rattle.algolw_typing.specs.Names.{declared};
@@ -6,44 +6,28 @@ ghost use Rattle.algolw_typing.specs.Rows as rows;
 ghost use Rattle.algolw_typing.specs.Scopes as scopes;
 ghost use Rattle.algolw_typing.specs.Types.{Gives};
 ghost use Rattle.algolw_typing.specs.Typing as rules;
-ghost use Rattle.algolw_typing.specs.Verdicts.{Verdict, all_parts, part, two_parts, type_of};
+ghost use Rattle.algolw_typing.specs.Verdicts.{all_parts, part, two_parts, type_of};
 ghost use Rattle.typing_rules.specs.View as view;
 ghost use Rattle.typed_phrases.specs.Found.{Finds, found_view};
 ghost use Rattle.typed_drafts.specs.StatementParts.{perhaps_of};
-ghost use Rattle.typed_phrases.specs.FoundParts.{by_all, given_view, phrases_view};
-ghost use Rattle.typed_phrases.specs.Ranges.{for_range_out, range_given, step_given, step_node};
+ghost use Rattle.typed_phrases.specs.FoundParts.{AreGiven, AreTyped, all_view};
+ghost use Rattle.typed_phrases.specs.Ranges.{for_range_out, range_given, step_node};
 ghost use Rattle.declared_names.specs.KnownView.{entry_of};
 
-use crate::making::{Phrases, Spot, Typed, given, made};
+use crate::making::{Phrases, Spot, Typed, made};
 use algolw_tree::Spelling;
-use bumpalo::Bump;
 use bumpalo::collections::into_bump_slice;
 use declared_names::{Facts, Known, KnownPath, KnownScope, place_of};
 use std::alloc::{AllocError, Global};
-use typed_drafts::{Draft, DraftCaseValue, DraftForList, DraftForStep, DraftIfThen, DraftKind};
+use typed_drafts::{
+    Draft, DraftCaseValue, DraftClassTest, DraftForList, DraftForStep, DraftIfThen, DraftKind,
+    DraftRepetition,
+};
 use typing_rules::{
     Meaning, NoType, PhraseType, Verdict, assert_row, case_value_row, for_row, if_else_row, if_row,
     is_row, while_row,
 };
 use value_ops::{Diagnostic, Place};
-
-/// What all parts give, where each has a type, in the arena.
-fn all_given<'a>(
-    arena: &'a Bump,
-    parts: &[Option<PhraseType<'a>>],
-) -> Result<Option<&'a [PhraseType<'a>]>, AllocError>
-    ensures { IfOk result (λ all. (row : List Gives → Verdict) → all_parts (map given_view parts.now) row
-        ≡ by_all all row) }
-{
-    let mut all = Vec::with_capacity(arena, parts.len())?;
-    for part in parts {
-        let Some(gives) = *part else {
-            return Ok(None);
-        };
-        all.push(gives)?;
-    }
-    Ok(Some(into_bump_slice(all)))
-}
 
 /// The verdict of an ASSERT, by that of its condition.
 fn assert_verdict<'a>(place: Place, condition: Verdict<'a>) -> Verdict<'a>
@@ -76,6 +60,7 @@ fn while_verdict<'a>(place: Place, condition: Verdict<'a>, body: Verdict<'a>) ->
 }
 
 /// A WHILE.
+#[tactic(auto, using(typed_drafts::proofs::KindRows::repetition_of))]
 pub fn while_do<'a>(
     spot: Spot<'a>,
     condition: Typed<'a>,
@@ -85,11 +70,11 @@ pub fn while_do<'a>(
         (found_view condition.entry) (found_view body.entry))) }
 {
     let verdict = while_verdict(spot.place, condition.verdict, body.verdict);
-    made(
-        spot,
-        verdict,
-        DraftKind::WhileDo(condition.draft, body.draft),
-    )
+    let repetition = spot.arena.try_alloc(DraftRepetition {
+        condition: condition.draft,
+        body: body.draft,
+    })?;
+    made(spot, verdict, DraftKind::WhileDo(repetition))
 }
 
 /// The verdict of an IF without ELSE, by those of its parts.
@@ -161,21 +146,19 @@ pub fn if_else<'a>(
     made(spot, verdict, DraftKind::IfThen(conditional))
 }
 
-/// The verdict of a CASE between values.
+/// The verdict of a CASE between values, by that of its subject and by what the values give, where each has a type.
 fn case_value_verdict<'a>(
     spot: Spot<'a>,
     subject: Verdict<'a>,
-    parts: &[Option<PhraseType<'a>>],
+    gives: &Option<Vec<PhraseType<'a>>>,
 ) -> Result<Verdict<'a>, AllocError>
-    ensures { IfOk result (λ v. view.verdict v ≡ part (type_of (view.verdict subject.entry)) (λ g.
-        all_parts (map given_view parts.now) (rows.case_value_row spot.entry.place g))) }
+    ensures { (gs : List (Option Gives)) → AreGiven (all_view gives.now) gs →
+        IfOk result (λ v. view.verdict v ≡ part (type_of (view.verdict subject.entry)) (λ g.
+        all_parts gs (rows.case_value_row spot.entry.place g))) }
 {
-    let Ok(subject) = subject else {
-        return Ok(Err(NoType::Silent));
-    };
-    match all_given(spot.arena, parts)? {
-        Some(parts) => case_value_row(spot.arena, spot.place, subject, parts),
-        None => Ok(Err(NoType::Silent)),
+    match (subject, gives) {
+        (Ok(subject), Some(gives)) => case_value_row(spot.arena, spot.place, subject, gives),
+        _ => Ok(Err(NoType::Silent)),
     }
 }
 
@@ -185,35 +168,17 @@ pub fn case_value<'a>(
     subject: Typed<'a>,
     values: Phrases<'a>,
 ) -> Result<Typed<'a>, AllocError>
-    ensures { IfOk result (λ t. Finds t (rules.case_value_out spot.entry.place spot.entry.first
-        (found_view subject.entry) (phrases_view values.entry))) }
+    ensures { (all : rules.PhrasesOut) → AreTyped values.entry all →
+        IfOk result (λ t. Finds t (rules.case_value_out spot.entry.place spot.entry.first
+        (found_view subject.entry) all)) }
 {
-    let gives = into_bump_slice(values.gives);
-    let values = into_bump_slice(values.drafts);
-    let verdict = case_value_verdict(spot, subject.verdict, gives)?;
+    let Phrases { gives, drafts } = values;
+    let verdict = case_value_verdict(spot, subject.verdict, &gives)?;
     let case = spot.arena.try_alloc(DraftCaseValue {
         subject: subject.draft,
-        values,
+        values: into_bump_slice(drafts),
     })?;
     made(spot, verdict, DraftKind::CaseValue(case))
-}
-
-/// The verdict of a FOR, by its parts before the body.
-fn for_verdict<'a>(
-    spot: Spot<'a>,
-    parts: &[Option<PhraseType<'a>>],
-    body: Verdict<'a>,
-) -> Result<Verdict<'a>, AllocError>
-    ensures { IfOk result (λ v. view.verdict v ≡ all_parts (map given_view parts.now) (λ gs.
-        part (type_of (view.verdict body.entry)) (rows.for_row spot.entry.place gs))) }
-{
-    let Some(parts) = all_given(spot.arena, parts)? else {
-        return Ok(Err(NoType::Silent));
-    };
-    match body {
-        Ok(body) => Ok(for_row(spot.place, parts, body)),
-        Err(_) => Ok(Err(NoType::Silent)),
-    }
 }
 
 /// The start, the step and the limit of a FOR, of which the step may be missing.
@@ -227,31 +192,24 @@ pub struct Range<'a> {
     pub limit: Typed<'a>,
 }
 
-/// Adds what a step gives, where there is one.
-fn add_step<'a>(
-    gives: &mut Vec<Option<PhraseType<'a>>, &'a Bump>,
-    step: Option<Typed<'a>>,
-) -> Result<(), AllocError>
-    ensures { OnOk result (map given_view gives.new.items ≡ map given_view gives.old.items ++ step_given step.entry) }
+/// The verdict of a FOR over a range.
+fn range_verdict<'a>(place: Place, range: Range<'a>, body: Verdict<'a>) -> Verdict<'a>
+    ensures { view.verdict result ≡ all_parts (range_given range.entry) (λ gs.
+        part (type_of (view.verdict body.entry)) (rows.for_row place gs)) }
 {
-    if let Some(step) = step {
-        gives.push(given(step.verdict))?;
+    let (Ok(start), Ok(limit), Ok(body)) = (range.start.verdict, range.limit.verdict, body) else {
+        return Err(NoType::Silent);
+    };
+    match range.step {
+        None => for_row(place, &[start, limit], body),
+        Some(
+            Typed {
+                verdict: Ok(step),
+                ..
+            },
+        ) => for_row(place, &[start, step, limit], body),
+        Some(_) => Err(NoType::Silent),
     }
-    Ok(())
-}
-
-/// What the parts of a range give, in the arena.
-fn range_gives<'a>(
-    arena: &'a Bump,
-    range: Range<'a>,
-) -> Result<&'a [Option<PhraseType<'a>>], AllocError>
-    ensures { IfOk result (λ gives. map given_view gives.now ≡ range_given range.entry) }
-{
-    let mut gives = Vec::with_capacity(arena, 3)?;
-    gives.push(given(range.start.verdict))?;
-    add_step(&mut gives, range.step)?;
-    gives.push(given(range.limit.verdict))?;
-    Ok(into_bump_slice(gives))
 }
 
 /// The draft of a step, where there is one.
@@ -274,8 +232,7 @@ pub fn for_range<'a>(
     ensures { IfOk result (λ t. Finds t (for_range_out spot.entry.place spot.entry.first
         range.entry (found_view body.entry))) }
 {
-    let gives = range_gives(spot.arena, range)?;
-    let verdict = for_verdict(spot, gives, body.verdict)?;
+    let verdict = range_verdict(spot.place, range, body.verdict);
     let stepped = spot.arena.try_alloc(DraftForStep {
         control: spot.place,
         start: range.start.draft,
@@ -286,21 +243,37 @@ pub fn for_range<'a>(
     made(spot, verdict, DraftKind::ForStep(stepped))
 }
 
+/// The verdict of a FOR with a list of values, by what the values give, where each has a type, and by that of its body.
+fn for_list_verdict<'a>(
+    place: Place,
+    gives: &Option<Vec<PhraseType<'a>>>,
+    body: Verdict<'a>,
+) -> Verdict<'a>
+    ensures { (gs : List (Option Gives)) → AreGiven (all_view gives.now) gs →
+        view.verdict result ≡ all_parts gs (λ all.
+        part (type_of (view.verdict body.entry)) (rows.for_row place all)) }
+{
+    match (gives, body) {
+        (Some(gives), Ok(body)) => for_row(place, gives, body),
+        _ => Err(NoType::Silent),
+    }
+}
+
 /// A FOR with a list of values.
 pub fn for_list<'a>(
     spot: Spot<'a>,
     values: Phrases<'a>,
     body: Typed<'a>,
 ) -> Result<Typed<'a>, AllocError>
-    ensures { IfOk result (λ t. Finds t (rules.for_list_out spot.entry.place spot.entry.first
-        (phrases_view values.entry) (found_view body.entry))) }
+    ensures { (all : rules.PhrasesOut) → AreTyped values.entry all →
+        IfOk result (λ t. Finds t (rules.for_list_out spot.entry.place spot.entry.first
+        all (found_view body.entry))) }
 {
-    let gives = into_bump_slice(values.gives);
-    let values = into_bump_slice(values.drafts);
-    let verdict = for_verdict(spot, gives, body.verdict)?;
+    let Phrases { gives, drafts } = values;
+    let verdict = for_list_verdict(spot.place, &gives, body.verdict);
     let listed = spot.arena.try_alloc(DraftForList {
         control: spot.place,
-        values,
+        values: into_bump_slice(drafts),
         body: body.draft,
     })?;
     made(spot, verdict, DraftKind::ForList(listed))
@@ -364,8 +337,12 @@ pub fn is_class<'a>(
 {
     let known = path.declared(&class.0);
     let verdict = is_verdict(spot.place, known, operand.verdict);
-    let kind = DraftKind::IsClass(operand.draft, place_of(known), class.1);
-    made(spot, verdict, kind)
+    let test = spot.arena.try_alloc(DraftClassTest {
+        reference: operand.draft,
+        class: place_of(known),
+        place: class.1,
+    })?;
+    made(spot, verdict, DraftKind::IsClass(test))
 }
 
 /// What a FOR at a place declares round its body.

@@ -19,7 +19,7 @@ use Rattle.typing_rules.specs.declared.actuals.Reading.{Reading}
 use Rattle.typing_rules.specs.declared.actuals.Reading.TheVariants as read
 use Rattle.typing_rules.specs.declared.actuals.Wanted.{Wanted}
 use Rattle.typing_rules.specs.declared.actuals.Wanted.TheVariants as wants
-use Rattle.typing_rules.specs.View.{value_type, phrase_type, verdict}
+use Rattle.typing_rules.specs.View.{value_type, verdict}
 
 abbrev pub standard : Standard → meanings.Standard
 standard the.Odd = meanings.Odd
@@ -56,7 +56,8 @@ meaning (name.Standard s) = meanings.a_standard (standard s)
 
 abbrev pub part : Part → meanings.Part
 part behind.Star = meanings.a_star
-part (behind.Phrase v g) = meanings.a_phrase v (phrase_type g)
+part (behind.Statement v) = meanings.a_phrase v types.Statement
+part (behind.Value v t) = meanings.a_phrase v (types.Simple (value_type t))
 part (behind.Array t n) = meanings.as_array (value_type t) n
 part (behind.Procedure result_type) = meanings.as_procedure (option_map value_type result_type)
 part behind.WithFormals = meanings.with_formals

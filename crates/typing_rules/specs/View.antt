@@ -12,7 +12,7 @@ use Rattle.typing_rules.specs.declared.verdicts.NoType.{NoType}
 use Rattle.typing_rules.specs.declared.verdicts.NoType.TheVariants as no
 
 abbrev pub classes_of : ClassSet → List Place
-classes_of set = set.places.now
+classes_of set = set.places.now.now
 
 abbrev pub value_type : ValueType → types.ValueType
 value_type value.Integer = types.Integer

@@ -6,7 +6,7 @@ ghost use Rattle.algolw_typing.specs.Verdicts as verdicts;
 ghost use Rattle.typing_rules.specs.View.{value_type, phrase_type, verdict};
 ghost use Rattle.typing_rules.specs.MeaningView as view;
 
-use crate::conditions::{fault, integer, statement, unless, value};
+use crate::conditions::{fault, integer, unless};
 use crate::meanings::{
     FormalType, Meaning, Part, array_row, class_row, field_row, gives_of, no_star, right_number,
     standard_row,
@@ -62,11 +62,8 @@ fn value_actual(place: Place, formal: ValueType<'_>, part: Part<'_>) -> Result<(
         ≡ actuals.value_actual place (value_type formal.entry) (view.part part.entry) row }
 {
     match part {
-        Part::Phrase(_, gives) => unless(
-            value(place, gives)?.fits(formal),
-            Diagnostic::TYPE_DOES_NOT_FIT,
-            place,
-        ),
+        Part::Value(_, given) => unless(given.fits(formal), Diagnostic::TYPE_DOES_NOT_FIT, place),
+        Part::Statement(_) => fault(place, Diagnostic::VALUE_NEEDED),
         Part::Typeless => Err(NoType::Silent),
         _ => fault(place, Diagnostic::WRONG_KIND_OF_ACTUAL),
     }
@@ -78,8 +75,8 @@ fn result_actual(place: Place, formal: ValueType<'_>, part: Part<'_>) -> Result<
         ≡ actuals.result_actual place (value_type formal.entry) (view.part part.entry) row }
 {
     match part {
-        Part::Phrase(is_variable, gives) => {
-            let given = value(place, gives)?;
+        Part::Statement(_) => fault(place, Diagnostic::VALUE_NEEDED),
+        Part::Value(is_variable, given) => {
             unless(is_variable, Diagnostic::NOT_A_VARIABLE, place)?;
             unless(formal.fits(given), Diagnostic::TYPE_DOES_NOT_FIT, place)
         }
@@ -94,8 +91,8 @@ fn value_result_actual(place: Place, formal: ValueType<'_>, part: Part<'_>) -> R
         ≡ actuals.value_result_actual place (value_type formal.entry) (view.part part.entry) row }
 {
     match part {
-        Part::Phrase(is_variable, gives) => {
-            let given = value(place, gives)?;
+        Part::Statement(_) => fault(place, Diagnostic::VALUE_NEEDED),
+        Part::Value(is_variable, given) => {
             unless(is_variable, Diagnostic::NOT_A_VARIABLE, place)?;
             unless(
                 given.fits(formal) && formal.fits(given),
@@ -142,8 +139,8 @@ fn statement_actual(place: Place, part: Part<'_>) -> Result<(), NoType>
         ≡ actuals.statement_actual place (view.part part.entry) row }
 {
     match part {
-        Part::Phrase(_, gives) => statement(place, gives),
-        Part::Procedure(None) => Ok(()),
+        Part::Statement(_) | Part::Procedure(None) => Ok(()),
+        Part::Value(_, _) => fault(place, Diagnostic::STATEMENT_NEEDED),
         Part::Typeless => Err(NoType::Silent),
         _ => fault(place, Diagnostic::WRONG_KIND_OF_ACTUAL),
     }
@@ -155,11 +152,8 @@ fn function_actual(place: Place, formal: ValueType<'_>, part: Part<'_>) -> Resul
         ≡ actuals.function_actual place (value_type formal.entry) (view.part part.entry) row }
 {
     match part {
-        Part::Phrase(_, gives) => unless(
-            value(place, gives)?.fits(formal),
-            Diagnostic::TYPE_DOES_NOT_FIT,
-            place,
-        ),
+        Part::Value(_, given) => unless(given.fits(formal), Diagnostic::TYPE_DOES_NOT_FIT, place),
+        Part::Statement(_) => fault(place, Diagnostic::VALUE_NEEDED),
         Part::Procedure(Some(given)) => unless(
             given.is_same(formal),
             Diagnostic::TYPE_DOES_NOT_FIT,
@@ -288,7 +282,8 @@ pub fn phrase_part<'a>(is_variable: bool, gives: Option<PhraseType<'a>>) -> Part
     ensures { view.part result ≡ actuals.phrase_part is_variable (option_map phrase_type gives.entry) }
 {
     match gives {
-        Some(gives) => Part::Phrase(is_variable, gives),
+        Some(PhraseType::Statement) => Part::Statement(is_variable),
+        Some(PhraseType::Value(of)) => Part::Value(is_variable, of),
         None => Part::Typeless,
     }
 }
@@ -313,7 +308,7 @@ fn procedure_name<'a>(
     if is_wanted {
         Part::Procedure(result_type)
     } else if formals.is_empty() {
-        Part::Phrase(false, gives_of(result_type))
+        phrase_part(false, Some(gives_of(result_type)))
     } else {
         Part::WithFormals
     }
@@ -404,7 +399,8 @@ fn subscripts(place: Place, parts: &[Part<'_>]) -> Result<(), NoType>
     for part in parts {
         match part {
             Part::Star => {}
-            Part::Phrase(_, gives) => integer(place, *gives)?,
+            Part::Statement(_) => return fault(place, Diagnostic::VALUE_NEEDED),
+            Part::Value(_, of) => integer(place, PhraseType::Value(*of))?,
             _ => return Err(NoType::Silent),
         }
     }

@@ -90,8 +90,10 @@ pub enum Meaning<'a> {
 pub enum Part<'a> {
     /// A `*`.
     Star,
-    /// A phrase: whether it is a variable, and what it gives.
-    Phrase(bool, PhraseType<'a>),
+    /// A phrase that is a statement. Whether it is a variable is kept, though none is.
+    Statement(bool),
+    /// A phrase with a value of a type: whether it is a variable.
+    Value(bool, ValueType<'a>),
     /// An array, or a subarray, which has as many dimensions as stars.
     Array(ValueType<'a>, u32),
     /// The name alone of a procedure or of a procedure formal, read as a procedure.
@@ -244,12 +246,13 @@ pub(crate) fn right_number(place: Place, number: usize, parts: &[Part<'_>]) -> R
 }
 
 /// What a phrase in a list gives.
-pub(crate) fn of_phrase<'a>(part: Part<'a>) -> Result<PhraseType<'a>, NoType>
+fn of_phrase<'a>(part: Part<'a>) -> Result<PhraseType<'a>, NoType>
     ensures { (row : types.Gives → verdicts.Verdict) → view.after result (λ g. row (phrase_type g))
         ≡ meanings.of_phrase (view.part part.entry) row }
 {
     match part {
-        Part::Phrase(_, gives) => Ok(gives),
+        Part::Statement(_) => Ok(PhraseType::Statement),
+        Part::Value(_, of) => Ok(PhraseType::Value(of)),
         _ => Err(NoType::Silent),
     }
 }
@@ -383,7 +386,7 @@ fn variables(place: Place, parts: &[Part<'_>]) -> Result<(), NoType>
         ≡ meanings.variables_read place (map view.part parts.now) row }
 {
     for part in parts {
-        let Part::Phrase(true, PhraseType::Value(_)) = part else {
+        let Part::Value(true, _) = part else {
             return fault(place, Diagnostic::NOT_A_VARIABLE);
         };
     }
@@ -396,7 +399,7 @@ fn no_references(place: Place, parts: &[Part<'_>]) -> Result<(), NoType>
         ≡ meanings.no_references place (view.values_of (map view.part parts.now)) row }
 {
     for part in parts {
-        if let Part::Phrase(_, PhraseType::Value(ValueType::Reference(_))) = part {
+        if let Part::Value(_, ValueType::Reference(_)) = part {
             return fault(place, Diagnostic::TYPE_DOES_NOT_FIT);
         }
     }
@@ -410,12 +413,10 @@ fn card_strings(place: Place, parts: &[Part<'_>]) -> Result<(), NoType>
 {
     for part in parts {
         match part {
-            Part::Phrase(_, PhraseType::Value(ValueType::Str(length))) => {
+            Part::Value(_, ValueType::Str(length)) => {
                 unless(*length >= 80, Diagnostic::TYPE_DOES_NOT_FIT, place)?;
             }
-            Part::Phrase(_, PhraseType::Value(_)) => {
-                return fault(place, Diagnostic::TYPE_DOES_NOT_FIT);
-            }
+            Part::Value(_, _) => return fault(place, Diagnostic::TYPE_DOES_NOT_FIT),
             _ => {}
         }
     }

@@ -1,8 +1,7 @@
-use Rattle.std.proofs.Common.{◌≡◌, ◌++◌, Some, OnOk, ap, subst, ◌∙◌}
+use Rattle.std.proofs.Common.{◌≡◌, ◌++◌, Some, OnOk, subst}
 use Rattle.algolw_typing.specs.Meanings.{a_label}
 use Rattle.algolw_typing.specs.Names.{Scope}
 use Rattle.algolw_typing.specs.Scopes.{Known}
-use Rattle.declared_names.specs.KnownView.{alike}
 use Rattle.declared_names.proofs.Placing.{alike_entries}
 use Rattle.declared_names.proofs.blocks.declare_labelled.Goals as goal
 

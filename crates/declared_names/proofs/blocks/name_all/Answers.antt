@@ -1,7 +1,6 @@
-use Rattle.std.proofs.Common.{◌≡◌, ◌++◌, None, OnOk, ap, subst, ◌∙◌}
+use Rattle.std.proofs.Common.{◌≡◌, ◌++◌, None, OnOk, subst}
 use Rattle.algolw_typing.specs.Names.{Scope}
 use Rattle.algolw_typing.specs.Scopes.{Known}
-use Rattle.declared_names.specs.KnownView.{alike}
 use Rattle.declared_names.proofs.Placing.{alike_entries}
 use Rattle.declared_names.proofs.blocks.name_all.Goals as goal
 

@@ -1,4 +1,4 @@
-use Rattle.std.proofs.Common.{◌≡◌, ◌+◌, length, drop, get_or, refl, sym, ap, ◌∙◌, arith}
+use Rattle.std.proofs.Common.{get_or, arith}
 use Rattle.std.proofs.lemmas.List.{drop_more}
 use Rattle.machine_calls.specs.Fitting as fitting
 use Rattle.machine_calls.proofs.Fits.{text_within, part_there, one_more, unfit}

@@ -1,4 +1,4 @@
-use Rattle.std.proofs.Common.{◌≡◌, refl, sym, ap, ◌∙◌, subst}
+use Rattle.std.proofs.Common.{refl, sym, ap, ◌∙◌, subst}
 use Rattle.std.specs.Prelude.{IsSome, slice_index_or}
 use Rattle.cell_store.specs.declared.cells.Wide.TheVariants as wide
 use Rattle.stack_code.specs.CodeView.{CodeView}

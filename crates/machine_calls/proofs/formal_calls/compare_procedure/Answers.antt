@@ -1,4 +1,4 @@
-use Rattle.std.proofs.Common.{refl, ◌≡◌, true, false, sym, ap, ◌∙◌, subst, arith}
+use Rattle.std.proofs.Common.{refl, ◌≡◌, true, false, sym, subst}
 use Rattle.std.specs.Prelude.{IsSome, IfSome, length}
 use Rattle.value_ops.specs.declared.places.Place.{Place}
 use Rattle.stack_code.specs.CodeView.{CodeView}

@@ -1,4 +1,4 @@
-use Rattle.std.proofs.Common.{◌≡◌, ◌≢◌, [], length, sym, ap, ◌∙◌, subst, arith, rules, tests}
+use Rattle.std.proofs.Common.{sym, subst, rules, tests}
 use Rattle.machine_rows.specs.Seen.{IsClear}
 use Rattle.machine_calls.specs.Rows.{Goes, Lands}
 use Rattle.machine_calls.proofs.Compared.{bare_use, with_heads, none_by, some_by}

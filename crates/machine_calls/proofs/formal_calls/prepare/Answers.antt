@@ -1,4 +1,4 @@
-use Rattle.std.proofs.Common.{◌≡◌, ◌<◌, length, refl, sym, ap, ◌∙◌, subst}
+use Rattle.std.proofs.Common.{◌<◌, length, refl, sym, ap, ◌∙◌, subst}
 use Rattle.std.specs.Prelude.{IsSome, slice_index_or}
 use Rattle.stack_code.specs.declared.heads.Reading.{Reading}
 use Rattle.stack_code.specs.CodeView.{CodeView}

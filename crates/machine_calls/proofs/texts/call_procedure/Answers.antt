@@ -1,4 +1,4 @@
-use Rattle.std.proofs.Common.{◌≡◌, ◌+◌, ◌-◌, ◌++◌, ◌∷◌, [], ◌≤◌, Some, length, sym, ap, ◌∙◌, subst, arith, length-append}
+use Rattle.std.proofs.Common.{◌≡◌, ◌-◌, ◌++◌, ◌∷◌, [], ◌≤◌, Some, length, sym, ap, ◌∙◌, subst, arith, length-append}
 use Rattle.std.specs.Prelude.{Err}
 use Rattle.cell_store.specs.declared.entries.Entry.TheVariants as entry
 use Rattle.cell_store.specs.Stores.{Store}
@@ -7,7 +7,7 @@ use Rattle.stack_code.specs.Limits.{ProcedureRuns}
 use Rattle.machine_rows.specs.declared.state.State.{State}
 use Rattle.machine_calls.specs.Found as found
 use Rattle.machine_calls.proofs.Uses.{step_answer}
-use Rattle.machine_calls.proofs.Calling.{call_stopped, call_limited, call_refused, call_within, call_room, call_done}
+use Rattle.machine_calls.proofs.Calling.{call_refused, call_within, call_room, call_done}
 use Rattle.machine_calls.proofs.texts.call_procedure.Goals as goal
 
 pub unreachable-requires : goal.unreachable-requires

@@ -1,4 +1,4 @@
-use Rattle.std.proofs.Common.{◌≡◌, ◌+◌, length, sym, ap, ◌∙◌, subst, arith}
+use Rattle.std.proofs.Common.{arith}
 use Rattle.machine_calls.proofs.Entering.{aside_within, aside_allowed, aside_done}
 use Rattle.machine_calls.proofs.texts.enter_aside.Goals as goal
 

@@ -1,4 +1,4 @@
-use Rattle.std.proofs.Common.{◌≡◌, ◌+◌, ◌++◌, ◌∷◌, [], ◌<◌, ◌≤◌, length, take, sym, ap, ◌∙◌, arith, length-append}
+use Rattle.std.proofs.Common.{◌++◌, ◌∷◌, [], ◌≤◌, length, take, ap, ◌∙◌, arith, length-append}
 use Rattle.std.proofs.lemmas.List.{length-take-le}
 use Rattle.machine_rows.specs.declared.state.State.{State}
 use Rattle.machine_calls.specs.Found as found

@@ -1,5 +1,5 @@
-use Rattle.std.proofs.Common.{◌≡◌, sym, ap, ◌∙◌, subst, arith}
-use Rattle.std.specs.Prelude.{Result, Ok, Err}
+use Rattle.std.proofs.Common.{sym, ap, ◌∙◌, subst, arith}
+use Rattle.std.specs.Prelude.{Err}
 use borrow.Enum.Total.{values_d}
 use Rattle.cell_store.specs.contracts.entries.Refusal as the_refusal
 use Rattle.cell_store.specs.declared.entries.Refusal.{Refusal}

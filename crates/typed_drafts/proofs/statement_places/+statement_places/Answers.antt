@@ -1,18 +1,19 @@
-use Rattle.std.proofs.Common.{◌+◌, suc, map, refl, ap, rules}
+use Rattle.std.proofs.Common.{◌+◌, suc, map, refl, ap, ◌∙◌, List, append-nil, rules}
+use Rattle.value_ops.specs.declared.places.Place.{Place}
 use Rattle.algolw_typing.specs.Typed as typed
 use Rattle.typed_drafts.specs.DraftView.{draft_view, link_view, part_view, actual_view, item_view, decl_view}
-use Rattle.typed_drafts.specs.DraftParts.{list_view, bound_view}
+use Rattle.typed_drafts.specs.DraftParts.{list_view, bound_view, lent_view}
 use Rattle.typed_drafts.specs.Onto.{nodes_onto, links_onto, lists_onto, actuals_onto, items_onto, bounds_onto, decls_onto}
 use Rattle.typed_drafts.proofs.DraftSizes.{size, size_kind, size_nodes, size_parts, size_links, size_link, size_lists, size_listing, size_actuals, size_actual, size_items, size_item, size_bounds, size_decls, size_decl, item_smaller}
 use Rattle.algolw_typing.specs.Programs.{kind_statements, decl_statements}
 use Rattle.typed_drafts.specs.StatementParts.{listing_statements}
-use Rattle.typed_drafts.proofs.KindRows.{link_at, named_at, chain_at, case_value_at, case_do_at, if_at, for_step_at, for_list_at, block_at, actuals_at, array_at}
+use Rattle.typed_drafts.proofs.KindRows.{link_at, applied_at, listed_at, relation_at, class_test_at, assignment_at, repetition_at, chain_at, case_value_at, case_do_at, if_at, for_step_at, for_list_at, block_at, actuals_at, array_at}
 use Rattle.typed_drafts.proofs.StatementArms.{by_part}
 use Rattle.typed_drafts.proofs.statement_places.+statement_places.Goals as goal
 
 pub add_drafts-add_draft-requires : goal.add_drafts-add_draft-requires
 add_drafts-add_draft-requires t c =
-    let h = item_smaller (λ xs. size_nodes (nodes_onto (map draft_view xs) typed.no_nodes)) (λ x. size (draft_view x)) (λ x xs. refl) c.args.drafts.now c.loop-draft.draft-index c.draft-item.result c.loop-draft-test.true c.draft-item.is in
+    let h = item_smaller (λ xs. size_nodes (nodes_onto (map lent_view xs) typed.no_nodes)) (λ x. size (lent_view x)) (λ x xs. refl) c.args.drafts.now c.loop-draft.draft-index c.draft-item.result c.loop-draft-test.true c.draft-item.is in
     search rules
 
 pub add_parts-add_part-requires : goal.add_parts-add_part-requires
@@ -51,10 +52,31 @@ add_decls-add_decl-requires t c =
     search rules
 
 pub add_kind-add_lists-requires : goal.add_kind-add_lists-requires
-add_kind-add_lists-requires t c = search (rules, ap size_kind (named_at _ _ c.in-Named.lists c.in-Named.is))
+add_kind-add_lists-requires t c = search (rules, ap size_kind (listed_at _ c.in-Listed.listed c.in-Listed.is))
 
-pub add_kind-returns-in-Named : goal.add_kind-returns-in-Named
-add_kind-returns-in-Named t c = by_part kind_statements c.add_lists.result c.args.places.now.items c.add_lists.new.places.items _ _ (named_at _ _ c.in-Named.lists c.in-Named.is) c.add_lists.ensures
+pub add_kind-returns-in-Listed : goal.add_kind-returns-in-Listed
+add_kind-returns-in-Listed t c = by_part kind_statements c.add_lists.result c.args.places.now.items c.add_lists.new.places.items _ _ (listed_at _ c.in-Listed.listed c.in-Listed.is) c.add_lists.ensures
+
+pub add_kind-add_actuals-requires : goal.add_kind-add_actuals-requires
+add_kind-add_actuals-requires t c = search (rules, ap size_kind (applied_at _ c.in-Applied.applied c.in-Applied.is))
+
+pub add_kind-returns-in-Applied : goal.add_kind-returns-in-Applied
+add_kind-returns-in-Applied t c = by_part (λ (xs : List Place). xs) c.add_actuals.result c.args.places.now.items c.add_actuals.new.places.items _ _ (ap kind_statements (applied_at _ c.in-Applied.applied c.in-Applied.is) ∙ append-nil _) c.add_actuals.ensures
+
+pub add_kind-add_both-requires : goal.add_kind-add_both-requires
+add_kind-add_both-requires t c = search (rules, ap size_kind (relation_at _ c.in-Relation.relation c.in-Relation.is))
+
+pub add_kind-returns-in-Relation : goal.add_kind-returns-in-Relation
+add_kind-returns-in-Relation t c = by_part kind_statements c.add_both.result c.args.places.now.items c.add_both.new.places.items _ _ (relation_at _ c.in-Relation.relation c.in-Relation.is) c.add_both.ensures
+
+pub add_kind-returns-in-IsClass : goal.add_kind-returns-in-IsClass
+add_kind-returns-in-IsClass t c = by_part kind_statements c.add_draft-in-IsClass.result c.args.places.now.items c.add_draft-in-IsClass.new.places.items _ _ (class_test_at _ c.in-IsClass.test c.in-IsClass.is) c.add_draft-in-IsClass.ensures
+
+pub add_kind-returns-in-Assign : goal.add_kind-returns-in-Assign
+add_kind-returns-in-Assign t c = by_part kind_statements c.add_both-in-Assign.result c.args.places.now.items c.add_both-in-Assign.new.places.items _ _ (assignment_at _ c.in-Assign.assignment c.in-Assign.is) c.add_both-in-Assign.ensures
+
+pub add_kind-returns-in-WhileDo : goal.add_kind-returns-in-WhileDo
+add_kind-returns-in-WhileDo t c = by_part kind_statements c.add_both-in-WhileDo.result c.args.places.now.items c.add_both-in-WhileDo.new.places.items _ _ (repetition_at _ c.in-WhileDo.repetition c.in-WhileDo.is) c.add_both-in-WhileDo.ensures
 
 pub add_kind-add_chain-requires : goal.add_kind-add_chain-requires
 add_kind-add_chain-requires t c = search (rules, ap size_kind (chain_at _ c.in-Chain.chain c.in-Chain.is))

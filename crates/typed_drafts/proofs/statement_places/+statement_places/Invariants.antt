@@ -2,7 +2,7 @@ use Rattle.std.proofs.Common.{◌≡◌, suc, ◌+◌, ◌++◌, map, drop}
 use Rattle.algolw_typing.specs.Typed as typed
 use Rattle.algolw_typing.specs.Programs.{nodes_statements, links_statements, lists_statements, actuals_statements, items_statements, bounds_statements, decls_statements}
 use Rattle.typed_drafts.specs.DraftView.{draft_view, kind_view, link_view, part_view, actual_view, item_view, decl_view}
-use Rattle.typed_drafts.specs.DraftParts.{list_view, bound_view}
+use Rattle.typed_drafts.specs.DraftParts.{list_view, bound_view, lent_view}
 use Rattle.typed_drafts.specs.Onto.{nodes_onto, links_onto, lists_onto, actuals_onto, items_onto, bounds_onto, decls_onto}
 use Rattle.typed_drafts.specs.StatementParts.{perhaps_of}
 use Rattle.typed_drafts.proofs.DraftSizes.{size, size_kind, size_perhaps, size_nodes, size_parts, size_links, size_lists, size_listing, size_actuals, size_actual, size_items, size_item, size_bounds, size_decls, size_decl}
@@ -24,7 +24,7 @@ abbrev pub decreases-add_conditional : goal.decreases-add_conditional
 decreases-add_conditional l = suc (size (draft_view l.condition.now) + size (draft_view l.then.now) + size_perhaps (perhaps_of l.otherwise))
 
 abbrev pub decreases-add_case_value : goal.decreases-add_case_value
-decreases-add_case_value l = suc (size (draft_view l.subject.now) + size_nodes (nodes_onto (map draft_view l.values.now) typed.no_nodes))
+decreases-add_case_value l = suc (size (draft_view l.subject.now) + size_nodes (nodes_onto (map lent_view l.values.now) typed.no_nodes))
 
 abbrev pub decreases-add_case_do : goal.decreases-add_case_do
 decreases-add_case_do l = suc (size (draft_view l.subject.now) + size_parts (nodes_onto (map part_view l.parts.now) typed.no_nodes))
@@ -33,7 +33,7 @@ abbrev pub decreases-add_stepped : goal.decreases-add_stepped
 decreases-add_stepped l = suc (size (draft_view l.start.now) + size_perhaps (perhaps_of l.step) + size (draft_view l.limit.now) + size (draft_view l.body.now))
 
 abbrev pub decreases-add_listed : goal.decreases-add_listed
-decreases-add_listed l = suc (size_nodes (nodes_onto (map draft_view l.values.now) typed.no_nodes) + size (draft_view l.body.now))
+decreases-add_listed l = suc (size_nodes (nodes_onto (map lent_view l.values.now) typed.no_nodes) + size (draft_view l.body.now))
 
 abbrev pub decreases-add_block : goal.decreases-add_block
 decreases-add_block l = suc (size_decls (decls_onto (map decl_view l.decls.now) typed.no_decls) + size_items (items_onto (map item_view l.items.now) typed.no_items))
@@ -51,7 +51,7 @@ abbrev pub decreases-add_decl : goal.decreases-add_decl
 decreases-add_decl l = suc (size_decl (decl_view l.decl.now))
 
 abbrev pub decreases-add_drafts : goal.decreases-add_drafts
-decreases-add_drafts l = size_nodes (nodes_onto (map draft_view l.drafts.now) typed.no_nodes)
+decreases-add_drafts l = size_nodes (nodes_onto (map lent_view l.drafts.now) typed.no_nodes)
 
 abbrev pub decreases-add_parts : goal.decreases-add_parts
 decreases-add_parts l = size_parts (nodes_onto (map part_view l.parts.now) typed.no_nodes)
@@ -81,7 +81,7 @@ abbrev pub decreases-add_decls : goal.decreases-add_decls
 decreases-add_decls l = size_decls (decls_onto (map decl_view l.decls.now) typed.no_decls)
 
 abbrev pub invariant-add_drafts-loop-draft : goal.invariant-add_drafts-loop-draft
-invariant-add_drafts-loop-draft l = l.places.items ++ nodes_statements (nodes_onto (map draft_view (drop l.draft-index l.drafts)) typed.no_nodes) ≡ l.initial.places.items ++ nodes_statements (nodes_onto (map draft_view l.drafts) typed.no_nodes)
+invariant-add_drafts-loop-draft l = l.places.items ++ nodes_statements (nodes_onto (map lent_view (drop l.draft-index l.drafts)) typed.no_nodes) ≡ l.initial.places.items ++ nodes_statements (nodes_onto (map lent_view l.drafts) typed.no_nodes)
 
 abbrev pub invariant-add_parts-loop-part : goal.invariant-add_parts-loop-part
 invariant-add_parts-loop-part l = l.places.items ++ nodes_statements (nodes_onto (map part_view (drop l.part-index l.parts)) typed.no_nodes) ≡ l.initial.places.items ++ nodes_statements (nodes_onto (map part_view l.parts) typed.no_nodes)

@@ -1,7 +1,9 @@
 use Rattle.std.proofs.Common.{◌≡◌, ◌+◌, suc, List, [], ◌∷◌, map, refl, sym, ap, subst, ◌∙◌, rules}
 use Rattle.std.specs.Option.{option_map}
 use Rattle.algolw_tree.specs.Tree as Tree
+use Rattle.algolw_tree.specs.declared.phrases.Actual.{Actual}
 use Rattle.algolw_tree.specs.declared.phrases.Formal.{Formal}
+use Rattle.std.specs.Result.{OnOk}
 use Rattle.algolw_tree.specs.declared.phrases.Phrase.{Phrase}
 use Rattle.algolw_tree.specs.declared.phrases.Item.{Item}
 use Rattle.algolw_tree.specs.declared.phrases.ProcDecl.{out-ProcDecl}
@@ -18,8 +20,8 @@ use Rattle.block_scopes.specs.Adding.{Adds, frame_view}
 use Rattle.block_scopes.specs.Parts.{item_naming}
 use Rattle.block_scopes.proofs.Added.{adds_and, finish, turn}
 use Rattle.block_scopes.proofs.Unnamed.{adds_none, ahead_none, behind_none, none_of_spec}
-use Rattle.block_scopes.proofs.Arms.{procedure_adds, procedure_is, by_naming, by_kind, by_listing, by_decl, by_tree, controlled_adds, for_step_naming, for_list_naming, range_inside, values_inside, item_first, size_item, size_first}
-use Rattle.algolw_tree.proofs.Rows.{listed_at, listed_is, chain_at, chain_is, class_test_at, conditional_at, conditional_is, case_value_at, case_value_is, case_do_at, for_step_at, for_step_is, for_list_at, for_list_is, block_at, actuals_at, array_at}
+use Rattle.block_scopes.proofs.Arms.{and_nothing, procedure_adds, procedure_is, by_naming, by_kind, by_listing, by_decl, by_tree, controlled_adds, for_step_naming, for_list_naming, range_inside, values_inside, item_first, size_item, size_first}
+use Rattle.algolw_tree.proofs.Rows.{applied_at, assignment_at, relation_at, repetition_at, listed_at, listed_is, chain_at, chain_is, class_test_at, conditional_at, conditional_is, case_value_at, case_value_is, case_do_at, for_step_at, for_step_is, for_list_at, for_list_is, block_at, actuals_at, array_at}
 use Rattle.algolw_tree.proofs.Sizes.{size, size_kind, size_phrases, size_links, size_lists, size_listing, size_actuals, size_actual, size_items, size_bounds, size_decls, size_decl, item_smaller}
 use Rattle.block_scopes.proofs.resolver.Resolver.+phrases.Goals as goal
 
@@ -126,14 +128,14 @@ procedure-returns t c =
 
 pub phrase-lists-requires : goal.phrase-lists-requires
 phrase-lists-requires t c =
-    search (rules, ap size_kind (listed_at _ c.in-Listed.listed c.deref.result.now c.in-Listed.is c.deref.ensures ∙ listed_is c.deref.result.now ∙ ap (λ ls. Tree.Named (out-Listed c.deref.result.now).name (lists_of (map list_tree ls))) (sym c.deref-in-Listed.ensures.value)))
+    search (rules, ap size_kind (listed_at _ c.in-Listed.listed c.deref-in-Listed.result.now c.in-Listed.is c.deref-in-Listed.ensures ∙ listed_is c.deref-in-Listed.result.now ∙ ap (λ ls. Tree.Named (out-Listed c.deref-in-Listed.result.now).name (lists_of (map list_tree ls))) (sym c.deref-in-Listed-2.ensures.value)))
 
 pub phrase-returns-in-Listed : goal.phrase-returns-in-Listed
 phrase-returns-in-Listed t c =
     let path = c.args.path.now in
     by_kind c.lists.result c.args.self.now c.lists.new.self (frame_view c.args.frame) path c.args.phrase.now.place _ _
-    (listed_at _ c.in-Listed.listed c.deref.result.now c.in-Listed.is c.deref.ensures ∙ listed_is c.deref.result.now ∙ ap (λ ls. Tree.Named (out-Listed c.deref.result.now).name (lists_of (map list_tree ls))) (sym c.deref-in-Listed.ensures.value))
-    (behind_none c.lists.result _ _ (use_at path (out-Listed c.deref.result.now).name c.args.phrase.now.place) _ (record { names = refl; classes = refl }) c.lists.ensures)
+    (listed_at _ c.in-Listed.listed c.deref-in-Listed.result.now c.in-Listed.is c.deref-in-Listed.ensures ∙ listed_is c.deref-in-Listed.result.now ∙ ap (λ ls. Tree.Named (out-Listed c.deref-in-Listed.result.now).name (lists_of (map list_tree ls))) (sym c.deref-in-Listed-2.ensures.value))
+    (behind_none c.lists.result _ _ (use_at path (out-Listed c.deref-in-Listed.result.now).name c.args.phrase.now.place) _ (record { names = refl; classes = refl }) c.lists.ensures)
 
 pub phrase-chain-requires : goal.phrase-chain-requires
 phrase-chain-requires t c = search (rules, ap size_kind (chain_at _ c.in-Chain.chain _ c.in-Chain.is c.deref-in-Chain.ensures))
@@ -230,3 +232,35 @@ for_list-returns t c =
     (for_list_naming f path c.args.place own.name scope (phrases_of (map tree c.deref.result.now)) (tree own.body) names)
     (controlled_adds _ _ _ _ f (frame_view c.in_ok-inner.inner) path c.inner.result scope _ (tree own.body) c.in_ok-inner.ensures.adds c.in_ok-inner.ensures.inner
     (values_inside _ _ _ _ path (phrases_of (map tree c.deref.result.now)) c.in_ok-inner.ensures.inner c.in_ok-phrases.ensures) c.inner.ensures c.in_ok-phrase.ensures))
+
+pub phrase-applied-requires : goal.phrase-applied-requires
+phrase-applied-requires t c = search (rules, ap size_kind (applied_at _ c.in-Applied.applied _ c.in-Applied.is c.deref.ensures))
+
+pub phrase-returns-in-Applied : goal.phrase-returns-in-Applied
+phrase-returns-in-Applied t c = by_kind c.applied.result c.args.self.now c.applied.new.self (frame_view c.args.frame) c.args.path.now c.args.phrase.now.place _ _ (applied_at _ c.in-Applied.applied _ c.in-Applied.is c.deref.ensures) (c.applied.ensures c.args.phrase.now.place)
+
+pub phrase-relation-requires : goal.phrase-relation-requires
+phrase-relation-requires t c = search (rules, ap size_kind (relation_at _ c.in-Relation.relation _ c.in-Relation.is c.deref-in-Relation.ensures))
+
+pub phrase-returns-in-Relation : goal.phrase-returns-in-Relation
+phrase-returns-in-Relation t c = by_kind c.relation.result c.args.self.now c.relation.new.self (frame_view c.args.frame) c.args.path.now c.args.phrase.now.place _ _ (relation_at _ c.in-Relation.relation _ c.in-Relation.is c.deref-in-Relation.ensures) (c.relation.ensures c.args.phrase.now.place)
+
+pub phrase-assignment-requires : goal.phrase-assignment-requires
+phrase-assignment-requires t c = search (rules, ap size_kind (assignment_at _ c.in-Assign.assignment _ c.in-Assign.is c.deref-in-Assign.ensures))
+
+pub phrase-returns-in-Assign : goal.phrase-returns-in-Assign
+phrase-returns-in-Assign t c = by_kind c.assignment.result c.args.self.now c.assignment.new.self (frame_view c.args.frame) c.args.path.now c.args.phrase.now.place _ _ (assignment_at _ c.in-Assign.assignment _ c.in-Assign.is c.deref-in-Assign.ensures) (c.assignment.ensures c.args.phrase.now.place)
+
+pub phrase-repetition-requires : goal.phrase-repetition-requires
+phrase-repetition-requires t c = search (rules, ap size_kind (repetition_at _ c.in-WhileDo.repetition _ c.in-WhileDo.is c.deref-in-WhileDo.ensures))
+
+pub phrase-returns-in-WhileDo : goal.phrase-returns-in-WhileDo
+phrase-returns-in-WhileDo t c = by_kind c.repetition.result c.args.self.now c.repetition.new.self (frame_view c.args.frame) c.args.path.now c.args.phrase.now.place _ _ (repetition_at _ c.in-WhileDo.repetition _ c.in-WhileDo.is c.deref-in-WhileDo.ensures) (c.repetition.ensures c.args.phrase.now.place)
+
+pub applied-returns : goal.applied-returns
+applied-returns t c place =
+    let f = frame_view c.args.frame in
+    let path = c.args.path.now in
+    let own = c.args.applied.now in
+    let all = subst (λ (xs : List Actual). OnOk c.actuals.result (Adds c.args.self.now c.actuals.new.self (actuals_naming f path (actuals_of (map actual_tree xs))))) c.deref.ensures.value c.actuals.ensures in
+    behind_none c.actuals.result _ _ (use_at path own.name place) _ (record { names = refl; classes = refl }) (by_naming c.actuals.result _ _ _ _ (sym (and_nothing _)) all)

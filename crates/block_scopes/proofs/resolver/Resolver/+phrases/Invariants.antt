@@ -1,6 +1,6 @@
 use Rattle.std.proofs.Common.{suc, ◌+◌, map, drop}
 use Rattle.algolw_tree.specs.Grammar.{phrases_of, links_of, lists_of, actuals_of, items_of, decls_of, bounds_of}
-use Rattle.algolw_tree.specs.View.{tree, link_tree, list_tree, actual_tree, part_tree, item_tree, decl_tree, bound_tree, procedure_tree, optional_tree, chain_tree, conditional_tree, case_value_tree, case_do_tree, for_step_tree, for_list_tree, block_tree}
+use Rattle.algolw_tree.specs.View.{tree, link_tree, list_tree, actual_tree, part_tree, item_tree, decl_tree, bound_tree, procedure_tree, optional_tree, applied_tree, relation_tree, assignment_tree, repetition_tree, chain_tree, conditional_tree, case_value_tree, case_do_tree, for_step_tree, for_list_tree, block_tree}
 use Rattle.algolw_typing.specs.Naming.{phrases_naming, links_naming, lists_naming, actuals_naming, items_naming, bounds_naming, decls_naming}
 use Rattle.block_scopes.specs.Adding.{frame_view}
 use Rattle.block_scopes.proofs.Added.{Left}
@@ -12,7 +12,19 @@ abbrev pub decreases-phrase : goal.decreases-phrase
 decreases-phrase l = size (tree l.phrase.now)
 
 abbrev pub decreases-both : goal.decreases-both
-decreases-both l = suc (size (tree l.left.now) + size (tree l.right.now))
+decreases-both l = size (tree l.left.now) + size (tree l.right.now)
+
+abbrev pub decreases-applied : goal.decreases-applied
+decreases-applied l = size_kind (applied_tree l.applied.now)
+
+abbrev pub decreases-relation : goal.decreases-relation
+decreases-relation l = size_kind (relation_tree l.relation.now)
+
+abbrev pub decreases-assignment : goal.decreases-assignment
+decreases-assignment l = size_kind (assignment_tree l.assignment.now)
+
+abbrev pub decreases-repetition : goal.decreases-repetition
+decreases-repetition l = size_kind (repetition_tree l.repetition.now)
 
 abbrev pub decreases-chain : goal.decreases-chain
 decreases-chain l = size_kind (chain_tree l.chain.now)

@@ -1,5 +1,5 @@
 use Rattle.std.proofs.Common.{◌≡◌, sym, ap, ◌∙◌, subst}
-use Rattle.std.specs.Prelude.{Option, List, ℕ, is_some, IfSome, slice_set}
+use Rattle.std.specs.Prelude.{List, is_some, IfSome, slice_set}
 use Rattle.cell_store.specs.declared.cells.Wide.TheVariants as wide
 use Rattle.cell_store.specs.Cells.{Shelf, a_wide}
 use Rattle.cell_store.specs.Held.{cells, beside_at}

@@ -1,6 +1,4 @@
-use Rattle.std.proofs.Common.{◌≡◌, ◌<◌, Option, Some, None, get_or, sym, ap, ◌∙◌, ℕ, rules, refl}
-use Rattle.std.specs.Option.{option_map}
-use Rattle.algolw_typing.specs.Names.{in_scope}
+use Rattle.std.proofs.Common.{◌≡◌, ◌<◌, None, get_or, sym, ap, ◌∙◌, ℕ, rules}
 use Rattle.name_scopes.specs.Marks.{mark_of}
 use Rattle.declared_names.proofs.Passing.{looked_for}
 use Rattle.declared_names.proofs.path.KnownPath.+declared_marked.Goals as goal

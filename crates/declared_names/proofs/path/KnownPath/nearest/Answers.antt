@@ -1,4 +1,4 @@
-use Rattle.std.proofs.Common.{◌<◌, suc, length, slice_set, sym, subst, ℕ, add-one}
+use Rattle.std.proofs.Common.{suc, length, slice_set, sym, subst, ℕ, add-one}
 use Rattle.name_scopes.specs.Nearest.{Nearest}
 use Rattle.declared_names.specs.Standards.{standard_path}
 use Rattle.name_scopes.proofs.Looking.{begun, one_more}

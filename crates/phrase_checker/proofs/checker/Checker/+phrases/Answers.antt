@@ -7,22 +7,23 @@ use Rattle.algolw_tree.specs.declared.phrases.ProcDecl.{out-ProcDecl}
 use Rattle.algolw_tree.specs.Grammar.{phrases_of, links_of, lists_of, actuals_of, items_of, decls_of, bounds_of}
 use Rattle.algolw_tree.specs.Tree as tree
 use Rattle.algolw_tree.specs.View.{tree as tree_of, empty_tree, part_tree, link_tree, list_tree, actual_tree, item_tree, decl_tree, bound_tree, formal_tree, procedure_tree, spec_tree}
-use Rattle.algolw_typing.specs.Names.{Scope}
+use Rattle.algolw_typing.specs.Actuals.{Reading}
+use Rattle.algolw_typing.specs.Names.{Scope, declared}
 use Rattle.algolw_typing.specs.Scopes.{Known, Scopes, control_scope, formal_scope}
 use Rattle.algolw_typing.specs.Types.{Statement}
 use Rattle.algolw_typing.specs.Typed as typed
 use Rattle.algolw_typing.specs.Typing as rules_of
-use Rattle.algolw_typing.specs.Typing.{DeclOut, typed_bounds, typed_decl, typed_decls, typed_items, typed_phrase}
+use Rattle.algolw_typing.specs.Typing.{DeclOut, typed_bounds, typed_decl, typed_decls, typed_items, typed_parts, typed_phrase}
 use Rattle.algolw_typing.specs.Verdicts.{Good}
 use Rattle.typing_rules.specs.MeaningView.{reading, wanted}
 use Rattle.typing_rules.specs.View as view
 use Rattle.typed_drafts.specs.declared.drafts.DraftDecl.{DraftDecl}
 use Rattle.typed_drafts.specs.DraftView.{draft_view, empty_view, item_view}
 use Rattle.declared_names.specs.Blocks.{DeclFound, bounds_view}
-use Rattle.typed_phrases.specs.Found.{found_view}
-use Rattle.typed_phrases.specs.FrontViews.{front_view, given_out}
+use Rattle.declared_names.specs.KnownView.{entry_of}
+use Rattle.typed_phrases.specs.FrontViews.{front_view}
 use Rattle.typed_phrases.specs.declared.making.Typed.{Typed}
-use Rattle.phrase_checker.specs.Checked.{DeclsChecked, ItemsChecked, Noted, end_of}
+use Rattle.phrase_checker.specs.Checked.{DeclsChecked, ItemsChecked, Noted, PartsChecked, end_of}
 use Rattle.phrase_checker.proofs.BlockFound.{block_found, noted_along, procedure_found}
 use Rattle.phrase_checker.proofs.BlockSteps.{as_many, bounds_step, meanings_step, kept_step, decls_step, decls_end, own_bounds, items_step, last_item, item_checked, empty_end, labelled_is, no_fault, phrase_in, size_item}
 use Rattle.phrase_checker.proofs.CaseSteps.{cases_step, cases_end, case_checked}
@@ -30,9 +31,9 @@ use Rattle.declared_names.proofs.Bounding.{array_found, bounds_kept, procedure_i
 use Rattle.phrase_checker.proofs.ForSteps.{range_checked, list_checked}
 use Rattle.phrase_checker.proofs.InBoxes.{listed_in, chain_in, conditional_in, class_test_in, case_value_in, case_do_in, for_step_in, for_list_in, block_in}
 use Rattle.phrase_checker.proofs.ListSteps as lists
-use Rattle.algolw_tree.proofs.Rows.{actuals_at, array_at}
+use Rattle.algolw_tree.proofs.Rows.{actuals_at, applied_at, array_at, assignment_at, relation_at, repetition_at}
 use Rattle.algolw_tree.proofs.Sizes.{size, size_kind, size_phrases, size_links, size_lists, size_listing, size_actuals, size_actual, size_items, size_bounds, size_decls, size_decl, item_smaller}
-use Rattle.phrase_checker.proofs.Steps.{by_kind, if_else_checked, prefixed_checked, phrases_step, links_step}
+use Rattle.phrase_checker.proofs.Steps.{by_kind, if_else_checked, prefixed_checked, phrases_step, phrases_end, value_checked, links_step}
 use Rattle.phrase_checker.proofs.checker.Checker.+phrases.Goals as goal
 
 pub conditional-returns-in_ok-phrase-in-Some : goal.conditional-returns-in_ok-phrase-in-Some
@@ -46,6 +47,12 @@ pair-returns t c = record { between = c.phrase.new.self; first = c.in_ok-first.e
 pub prefixed-returns : goal.prefixed-returns
 prefixed-returns t c =
     prefixed_checked c.prefixed.result c.args.path.now c.args.spot.place c.args.spot.first c.args.prefix c.args.self.now c.phrase.new.self c.in_ok-operand.operand (tree_of c.args.operand.now) c.in_ok-operand.ensures c.prefixed.ensures
+
+pub case_value-returns : goal.case_value-returns
+case_value-returns t c = value_checked c.case_value.result c.args.spot.place c.args.spot.first c.args.self.now c.phrase.new.self c.phrases.new.self c.in_ok-subject.subject c.in_ok-values.values _ _ c.in_ok-subject.ensures c.in_ok-values.ensures (c.case_value.ensures _ c.in_ok-values.ensures.found)
+
+pub phrases-returns : goal.phrases-returns
+phrases-returns t c = phrases_end c.args.path.now c.args.phrases.now c.loop-phrase.phrase-index c.args.self.now c.loop-phrase.self c.loop-phrase.found c.loop-phrase-test.false c.loop-phrase.invariant
 
 pub case_do-returns : goal.case_do-returns
 case_do-returns t c = case_checked c.case_do.result c.args.spot.place c.args.spot.first c.args.self.now c.phrase.new.self c.cases.new.self c.in_ok-subject.subject c.in_ok-cases.cases _ _ c.in_ok-subject.ensures c.in_ok-cases.ensures (c.case_do.ensures _ c.in_ok-cases.ensures.found)
@@ -129,7 +136,7 @@ for_range-returns t c =
     range_checked c.for_range.result c.args.path.now c.args.spot.place c.args.spot.first c.args.name.now c.args.self.now c.range.new.self c.controlled.new.self c.in_ok-range.range c.in_ok-body.body _ _ _ _ c.in_ok-range.ensures c.in_ok-body.ensures c.for_range.ensures
 
 pub for_list-returns : goal.for_list-returns
-for_list-returns t c = list_checked c.for_list.result c.args.spot.place c.args.spot.first c.args.self.now c.phrases.new.self c.controlled.new.self c.in_ok-values.values c.in_ok-body.body _ _ c.in_ok-values.ensures c.in_ok-body.ensures c.for_list.ensures
+for_list-returns t c = list_checked c.for_list.result c.args.spot.place c.args.spot.first c.args.self.now c.phrases.new.self c.controlled.new.self c.in_ok-values.values c.in_ok-body.body _ _ c.in_ok-values.ensures c.in_ok-body.ensures (c.for_list.ensures _ c.in_ok-values.ensures.found)
 
 pub named-loop-list-preserved : goal.named-loop-list-preserved
 named-loop-list-preserved t c =
@@ -307,3 +314,39 @@ inside-named-requires t c = search (rules, ap size_kind (listed_in _ c.in-Listed
 
 pub inside-returns-in-Listed : goal.inside-returns-in-Listed
 inside-returns-in-Listed t c = by_kind c.named.result c.args.self.now c.named.new.self c.args.path.now c.args.phrase.now.place c.args.phrase.now.first _ _ (listed_in _ c.in-Listed.listed c.deref-in-Listed.result.now c.deref-in-Listed-2.result.now c.deref-in-Listed-3.result.now c.in-Listed.is c.deref-in-Listed.ensures c.deref-in-Listed-2.ensures c.deref-in-Listed-3.ensures.value) c.named.ensures
+
+pub inside-relation-requires : goal.inside-relation-requires
+inside-relation-requires t c = search (rules, ap size_kind (relation_at _ c.in-Relation.relation c.deref-in-Relation.result.now c.in-Relation.is c.deref-in-Relation.ensures))
+
+pub inside-returns-in-Relation : goal.inside-returns-in-Relation
+inside-returns-in-Relation t c = by_kind c.relation.result c.args.self.now c.relation.new.self c.args.path.now c.args.phrase.now.place c.args.phrase.now.first _ _ (relation_at _ c.in-Relation.relation c.deref-in-Relation.result.now c.in-Relation.is c.deref-in-Relation.ensures) c.relation.ensures
+
+pub inside-assign-requires : goal.inside-assign-requires
+inside-assign-requires t c = search (rules, ap size_kind (assignment_at _ c.in-Assign.assignment c.deref-in-Assign.result.now c.in-Assign.is c.deref-in-Assign.ensures))
+
+pub inside-returns-in-Assign : goal.inside-returns-in-Assign
+inside-returns-in-Assign t c = by_kind c.assign.result c.args.self.now c.assign.new.self c.args.path.now c.args.phrase.now.place c.args.phrase.now.first _ _ (assignment_at _ c.in-Assign.assignment c.deref-in-Assign.result.now c.in-Assign.is c.deref-in-Assign.ensures) c.assign.ensures
+
+pub inside-while_do-requires : goal.inside-while_do-requires
+inside-while_do-requires t c = search (rules, ap size_kind (repetition_at _ c.in-WhileDo.repetition c.deref-in-WhileDo.result.now c.in-WhileDo.is c.deref-in-WhileDo.ensures))
+
+pub inside-returns-in-WhileDo : goal.inside-returns-in-WhileDo
+inside-returns-in-WhileDo t c = by_kind c.while_do.result c.args.self.now c.while_do.new.self c.args.path.now c.args.phrase.now.place c.args.phrase.now.first _ _ (repetition_at _ c.in-WhileDo.repetition c.deref-in-WhileDo.result.now c.in-WhileDo.is c.deref-in-WhileDo.ensures) c.while_do.ensures
+
+pub inside-applied-requires : goal.inside-applied-requires
+inside-applied-requires t c = search (rules, ap size_kind (applied_at _ c.in-Applied.applied c.deref-in-Applied.result.now c.in-Applied.is c.deref-in-Applied.ensures))
+
+pub inside-returns-in-Applied : goal.inside-returns-in-Applied
+inside-returns-in-Applied t c = by_kind c.applied.result c.args.self.now c.applied.new.self c.args.path.now c.args.phrase.now.place c.args.phrase.now.first _ _ (applied_at _ c.in-Applied.applied c.deref-in-Applied.result.now c.in-Applied.is c.deref-in-Applied.ensures) c.applied.ensures
+
+pub applied-returns : goal.applied-returns
+applied-returns t c =
+    let own = c.args.application.now in
+    let path = c.args.path.now in
+    let known = c.declared-target.result in
+    let actuals = c.deref.result.now in
+    let target = subst (λ (x : List ℕ). option_map (entry_of x) known ≡ declared path x) c.spelling.ensures c.declared-target.ensures in
+    let parts = subst (λ (r : Reading). PartsChecked c.args.self.now c.parts.new.self c.in_ok-parts.parts (typed_parts path r (actuals_of (map actual_tree actuals)))) (c.reading.ensures own.name) c.in_ok-parts.ensures in
+    IfOk-weaker c.applied.result _ _
+    (λ (u : Typed) h. lists.applied_found path c.args.spot.place c.args.spot.first own.name own.place actuals own.actuals.items known c.args.self.now c.parts.new.self c.in_ok-parts.parts u target c.deref.ensures.value parts (h own.name))
+    c.applied.ensures

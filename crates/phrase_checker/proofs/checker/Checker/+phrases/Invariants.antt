@@ -10,10 +10,11 @@ use Rattle.algolw_typing.specs.Verdicts.{Good}
 use Rattle.typing_rules.specs.MeaningView.{part, reading}
 use Rattle.typing_rules.specs.View as view
 use Rattle.declared_names.specs.Blocks.{bounds_view, each_bounds}
-use Rattle.typed_phrases.specs.FoundParts.{given_view}
+use Rattle.typed_phrases.specs.FoundParts.{all_view, given_view}
+use Rattle.typed_drafts.specs.DraftParts.{lent_view}
 use Rattle.typed_phrases.specs.Fronts.{front_lists}
 use Rattle.typed_phrases.specs.FrontViews.{front_view}
-use Rattle.typed_drafts.specs.DraftView.{draft_view, part_view, link_view, actual_view, item_view, decl_view}
+use Rattle.typed_drafts.specs.DraftView.{part_view, link_view, actual_view, item_view, decl_view}
 use Rattle.typed_drafts.specs.DraftParts.{list_view, bound_view}
 use Rattle.algolw_tree.specs.View.{optional_tree}
 use Rattle.phrase_checker.proofs.BlockSteps.{BoundsSoFar, DeclsSoFar, ItemsSoFar, phrase_in}
@@ -35,10 +36,10 @@ abbrev pub decreases-pair : goal.decreases-pair
 decreases-pair l = 3 * suc (size (tree l.first.now) + size (tree l.second.now))
 
 abbrev pub decreases-relation : goal.decreases-relation
-decreases-relation l = suc (3 * suc (size (tree l.left.now) + size (tree l.right.now)))
+decreases-relation l = suc (3 * suc (size (tree l.comparison.now.left) + size (tree l.comparison.now.right)))
 
 abbrev pub decreases-while_do : goal.decreases-while_do
-decreases-while_do l = suc (3 * suc (size (tree l.condition.now) + size (tree l.body.now)))
+decreases-while_do l = suc (3 * suc (size (tree l.repetition.now.condition) + size (tree l.repetition.now.body)))
 
 abbrev pub decreases-conditional : goal.decreases-conditional
 decreases-conditional l = suc (3 * suc (size (tree l.condition.now) + size (tree l.then.now) + size_perhaps (optional_tree l.otherwise.now)))
@@ -70,7 +71,7 @@ abbrev pub decreases-phrases : goal.decreases-phrases
 decreases-phrases l = 3 * size_phrases (phrases_of (map tree l.phrases.now))
 
 abbrev pub invariant-phrases-loop-phrase : goal.invariant-phrases-loop-phrase
-invariant-phrases-loop-phrase l = PhrasesSoFar l.initial.self.faults.items l.self.faults.items (map given_view l.found.gives.items) (map draft_view l.found.drafts.items) (typed_phrases l.path (phrases_of (map tree l.phrases))) (typed_phrases l.path (phrases_of (map tree (drop l.phrase-index l.phrases))))
+invariant-phrases-loop-phrase l = PhrasesSoFar l.initial.self.faults.items l.self.faults.items (all_view l.found.gives) (map lent_view l.found.drafts.items) (typed_phrases l.path (phrases_of (map tree l.phrases))) (typed_phrases l.path (phrases_of (map tree (drop l.phrase-index l.phrases))))
 
 abbrev pub invariant-links-loop-link : goal.invariant-links-loop-link
 invariant-links-loop-link l = LinksSoFar l.initial.self.faults.items l.self.faults.items (map link_view l.found.drafts.items) (typed_links l.path (view.verdict l.initial.found.verdict) (links_of (map link_tree l.links))) (typed_links l.path (view.verdict l.found.verdict) (links_of (map link_tree (drop l.link-index l.links))))
@@ -79,7 +80,7 @@ abbrev pub decreases-is_class : goal.decreases-is_class
 decreases-is_class l = 3 * suc (size (tree l.operand.now))
 
 abbrev pub decreases-assign : goal.decreases-assign
-decreases-assign l = suc (3 * suc (size (tree l.target.now) + size (tree l.value.now)))
+decreases-assign l = suc (3 * suc (size (tree l.assignment.now.target) + size (tree l.assignment.now.value)))
 
 abbrev pub decreases-controlled : goal.decreases-controlled
 decreases-controlled l = 3 * suc (size (tree l.body.now))
@@ -101,6 +102,9 @@ decreases-named l = 3 * suc (size_lists (lists_of (map list_tree l.lists.now)))
 
 abbrev pub decreases-list : goal.decreases-list
 decreases-list l = 3 * size_listing (list_tree l.list.now)
+
+abbrev pub decreases-applied : goal.decreases-applied
+decreases-applied l = suc (3 * size_actuals (actuals_of (map actual_tree l.application.now.actuals.items)))
 
 abbrev pub decreases-parts : goal.decreases-parts
 decreases-parts l = 3 * size_actuals (actuals_of (map actual_tree l.actuals.now))

@@ -2,30 +2,30 @@ use Rattle.std.proofs.Common.{◌+◌, suc, map, refl, ap, subst, rules}
 use Rattle.algolw_typing.specs.Typed as typed
 use Rattle.algolw_typing.specs.ProgramView as program
 use Rattle.typed_drafts.specs.DraftView.{draft_view, link_view, part_view, actual_view, item_view, decl_view}
-use Rattle.typed_drafts.specs.DraftParts.{list_view, bound_view}
+use Rattle.typed_drafts.specs.DraftParts.{list_view, bound_view, lent_view}
 use Rattle.typed_drafts.specs.Onto.{nodes_onto, links_onto, lists_onto, actuals_onto, items_onto, bounds_onto, decls_onto}
 use Rattle.typed_drafts.proofs.DraftSizes.{size, size_kind, size_nodes, size_parts, size_link, size_links, size_lists, size_listing, size_actuals, size_actual, size_items, size_item, size_bounds, size_decls, size_decl, item_smaller}
-use Rattle.typed_drafts.proofs.KindRows.{named_at, chain_at, case_value_at, case_do_at, if_at, for_step_at, for_list_at, block_at, actuals_at, array_at, labelled_at, link_at}
+use Rattle.typed_drafts.proofs.KindRows.{applied_at, listed_at, relation_at, class_test_at, assignment_at, repetition_at, chain_at, case_value_at, case_do_at, if_at, for_step_at, for_list_at, block_at, actuals_at, array_at, labelled_at, link_at}
 use Rattle.typed_drafts.specs.declared.drafts.DraftLink.{out-DraftLink}
 use Rattle.typed_drafts.specs.declared.drafts.DraftProc.{out-DraftProc}
 use Rattle.program_numbers.proofs.ProcedureParts.{procedure_at}
 use Rattle.program_numbers.specs.Numbered.{NodeNumbered, KindNumbered, NodesNumbered, LinksNumbered, LinkNumbered, ListsNumbered, ListingNumbered, ActualsNumbered, ActualNumbered, ItemsNumbered, ItemNumbered, BoundsNumbered, BoundNumbered, DeclsNumbered, DeclNumbered}
 use Rattle.program_numbers.specs.ProgramParts.{link_in, list_in, bound_in}
 use Rattle.program_numbers.proofs.Making.{makes_of, makes_as, makes_same, made_two, turn, finish, part_has}
-use Rattle.program_numbers.proofs.NodeMaking.{node_made, named_made, chain_made, if_made, case_value_made, case_do_made, for_step_made, for_list_made, block_made, actuals_made, array_made, procedure_made, labelled_made}
+use Rattle.program_numbers.proofs.NodeMaking.{node_made, named_made, applied_made, chain_made, if_made, case_value_made, case_do_made, for_step_made, for_list_made, block_made, actuals_made, array_made, procedure_made, labelled_made}
 use Rattle.program_numbers.proofs.numbering.Numbering.+nodes.Goals as goal
 
 pub nodes-node-requires : goal.nodes-node-requires
 nodes-node-requires t c =
-    let h = item_smaller (λ xs. size_nodes (nodes_onto (map draft_view xs) typed.no_nodes)) (λ x. size (draft_view x)) (λ x xs. refl) c.args.drafts.now c.loop-draft.draft-index c.draft-item.result c.loop-draft-test.true c.draft-item.is in
-    let known : NodeNumbered c.args.self.now (draft_view c.draft-item.result) = part_has (λ xs. NodesNumbered c.args.self.now (nodes_onto (map draft_view xs) typed.no_nodes)) (λ x. NodeNumbered c.args.self.now (draft_view x)) (λ x xs h. (h.0, h.1)) c.args.drafts.now c.loop-draft.draft-index c.draft-item.result c.loop-draft-test.true c.draft-item.is c.requires in
+    let h = item_smaller (λ xs. size_nodes (nodes_onto (map lent_view xs) typed.no_nodes)) (λ x. size (lent_view x)) (λ x xs. refl) c.args.drafts.now c.loop-draft.draft-index c.draft-item.result c.loop-draft-test.true c.draft-item.is in
+    let known : NodeNumbered c.args.self.now (lent_view c.draft-item.result) = part_has (λ xs. NodesNumbered c.args.self.now (nodes_onto (map lent_view xs) typed.no_nodes)) (λ x. NodeNumbered c.args.self.now (lent_view x)) (λ x xs h. (h.0, h.1)) c.args.drafts.now c.loop-draft.draft-index c.draft-item.result c.loop-draft-test.true c.draft-item.is c.requires in
     search rules
 
 pub nodes-loop-draft-preserved : goal.nodes-loop-draft-preserved
-nodes-loop-draft-preserved t c = turn c.args.self.now c.args.table.now c.loop-draft.table _ program.node_view draft_view c.args.drafts.now c.loop-draft.draft-index c.draft-item.result c.loop-draft.made.items c.push.new.self.items _ c.loop-draft-test.true c.draft-item.is c.loop-draft.invariant c.in_ok-next.ensures c.in_ok-push.ensures.items
+nodes-loop-draft-preserved t c = turn c.args.self.now c.args.table.now c.loop-draft.table _ program.node_view lent_view c.args.drafts.now c.loop-draft.draft-index c.draft-item.result c.loop-draft.made.items c.push.new.self.items _ c.loop-draft-test.true c.draft-item.is c.loop-draft.invariant c.in_ok-next.ensures c.in_ok-push.ensures.items
 
 pub nodes-returns : goal.nodes-returns
-nodes-returns t c = finish c.args.self.now c.args.table.now c.loop-draft.table program.node_view draft_view c.args.drafts.now c.loop-draft.draft-index c.loop-draft.made.items c.loop-draft-test.false c.loop-draft.invariant
+nodes-returns t c = finish c.args.self.now c.args.table.now c.loop-draft.table program.node_view lent_view c.args.drafts.now c.loop-draft.draft-index c.loop-draft.made.items c.loop-draft-test.false c.loop-draft.invariant
 
 pub parts-part-requires : goal.parts-part-requires
 parts-part-requires t c =
@@ -121,6 +121,11 @@ node-returns t c = node_made c.args.self.now _ _ _ c.args.draft.now.place c.args
 pub named-returns : goal.named-returns
 named-returns t c = named_made c.args.self.now _ _ _ c.args.name _ _ c.number.ensures.place c.in_ok-lists.ensures
 
+pub applied-returns : goal.applied-returns
+applied-returns t c =
+    let own = c.args.applied.now in
+    applied_made c.args.self.now _ _ _ own.name own.place c.in_ok-actuals.actuals _ _ c.push.new.self _ c.number.ensures.place c.in_ok-push.ensures.items c.in_ok-lists.ensures.items (λ ns. refl) c.in_ok-actuals.ensures
+
 pub chain-returns : goal.chain-returns
 chain-returns t c = chain_made c.args.self.now _ _ _ c.in_ok-first.first c.in_ok-links.links _ _ c.in_ok-first.ensures c.in_ok-links.ensures
 
@@ -151,14 +156,59 @@ listed-returns t c = for_list_made c.args.self.now _ _ _ _ c.args.control c.in_o
 pub block-returns : goal.block-returns
 block-returns t c = block_made c.args.self.now _ _ _ _ _ _ _ c.in_ok-decls.ensures c.in_ok-items.ensures
 
-pub kind-named-requires : goal.kind-named-requires
-kind-named-requires t c =
-    let e = named_at _ _ c.in-Named.lists c.in-Named.is in
+pub kind-applied-requires : goal.kind-applied-requires
+kind-applied-requires t c =
+    let e = applied_at _ c.in-Applied.applied c.in-Applied.is in
     let known = subst (KindNumbered c.args.self.now) e c.requires in
     search (rules, ap size_kind e)
 
-pub kind-returns-in-Named : goal.kind-returns-in-Named
-kind-returns-in-Named t c = makes_same c.args.self.now c.args.table.now c.named.new.table (λ made ns. program.kind_view ns made) c.named.result _ _ (named_at _ _ c.in-Named.lists c.in-Named.is) c.named.ensures
+pub kind-returns-in-Applied : goal.kind-returns-in-Applied
+kind-returns-in-Applied t c = makes_same c.args.self.now c.args.table.now c.applied.new.table (λ made ns. program.kind_view ns made) c.applied.result _ _ (applied_at _ c.in-Applied.applied c.in-Applied.is) c.applied.ensures
+
+pub kind-relation-requires : goal.kind-relation-requires
+kind-relation-requires t c =
+    let e = relation_at _ c.in-Relation.relation c.in-Relation.is in
+    let known = subst (KindNumbered c.args.self.now) e c.requires in
+    search (rules, ap size_kind e)
+
+pub kind-returns-in-Relation : goal.kind-returns-in-Relation
+kind-returns-in-Relation t c = makes_same c.args.self.now c.args.table.now c.relation.new.table (λ made ns. program.kind_view ns made) c.relation.result _ _ (relation_at _ c.in-Relation.relation c.in-Relation.is) c.relation.ensures
+
+pub kind-is_class-requires : goal.kind-is_class-requires
+kind-is_class-requires t c =
+    let e = class_test_at _ c.in-IsClass.test c.in-IsClass.is in
+    let known = subst (KindNumbered c.args.self.now) e c.requires in
+    search (rules, ap size_kind e)
+
+pub kind-returns-in-IsClass : goal.kind-returns-in-IsClass
+kind-returns-in-IsClass t c = makes_same c.args.self.now c.args.table.now c.is_class.new.table (λ made ns. program.kind_view ns made) c.is_class.result _ _ (class_test_at _ c.in-IsClass.test c.in-IsClass.is) c.is_class.ensures
+
+pub kind-assign-requires : goal.kind-assign-requires
+kind-assign-requires t c =
+    let e = assignment_at _ c.in-Assign.assignment c.in-Assign.is in
+    let known = subst (KindNumbered c.args.self.now) e c.requires in
+    search (rules, ap size_kind e)
+
+pub kind-returns-in-Assign : goal.kind-returns-in-Assign
+kind-returns-in-Assign t c = makes_same c.args.self.now c.args.table.now c.assign.new.table (λ made ns. program.kind_view ns made) c.assign.result _ _ (assignment_at _ c.in-Assign.assignment c.in-Assign.is) c.assign.ensures
+
+pub kind-while_do-requires : goal.kind-while_do-requires
+kind-while_do-requires t c =
+    let e = repetition_at _ c.in-WhileDo.repetition c.in-WhileDo.is in
+    let known = subst (KindNumbered c.args.self.now) e c.requires in
+    search (rules, ap size_kind e)
+
+pub kind-returns-in-WhileDo : goal.kind-returns-in-WhileDo
+kind-returns-in-WhileDo t c = makes_same c.args.self.now c.args.table.now c.while_do.new.table (λ made ns. program.kind_view ns made) c.while_do.result _ _ (repetition_at _ c.in-WhileDo.repetition c.in-WhileDo.is) c.while_do.ensures
+
+pub kind-named-requires-in-Listed : goal.kind-named-requires-in-Listed
+kind-named-requires-in-Listed t c =
+    let e = listed_at _ c.in-Listed.listed c.in-Listed.is in
+    let known = subst (KindNumbered c.args.self.now) e c.requires in
+    search (rules, ap size_kind e)
+
+pub kind-returns-in-Listed : goal.kind-returns-in-Listed
+kind-returns-in-Listed t c = makes_same c.args.self.now c.args.table.now c.named-in-Listed.new.table (λ made ns. program.kind_view ns made) c.named-in-Listed.result _ _ (listed_at _ c.in-Listed.listed c.in-Listed.is) c.named-in-Listed.ensures
 
 pub kind-chain-requires : goal.kind-chain-requires
 kind-chain-requires t c =
@@ -198,21 +248,21 @@ kind-returns-in-IfThen t c = makes_same c.args.self.now c.args.table.now c.condi
 
 pub kind-stepped-requires : goal.kind-stepped-requires
 kind-stepped-requires t c =
-    let e = for_step_at _ c.in-ForStep.stepped c.in-ForStep.is in
+    let e = for_step_at _ c.in-ForStep.turns c.in-ForStep.is in
     let known = subst (KindNumbered c.args.self.now) e c.requires in
     search (rules, ap size_kind e)
 
 pub kind-returns-in-ForStep : goal.kind-returns-in-ForStep
-kind-returns-in-ForStep t c = makes_same c.args.self.now c.args.table.now c.stepped.new.table (λ made ns. program.kind_view ns made) c.stepped.result _ _ (for_step_at _ c.in-ForStep.stepped c.in-ForStep.is) c.stepped.ensures
+kind-returns-in-ForStep t c = makes_same c.args.self.now c.args.table.now c.stepped.new.table (λ made ns. program.kind_view ns made) c.stepped.result _ _ (for_step_at _ c.in-ForStep.turns c.in-ForStep.is) c.stepped.ensures
 
 pub kind-listed-requires : goal.kind-listed-requires
 kind-listed-requires t c =
-    let e = for_list_at _ c.in-ForList.listed c.in-ForList.is in
+    let e = for_list_at _ c.in-ForList.turns c.in-ForList.is in
     let known = subst (KindNumbered c.args.self.now) e c.requires in
     search (rules, ap size_kind e)
 
 pub kind-returns-in-ForList : goal.kind-returns-in-ForList
-kind-returns-in-ForList t c = makes_same c.args.self.now c.args.table.now c.listed.new.table (λ made ns. program.kind_view ns made) c.listed.result _ _ (for_list_at _ c.in-ForList.listed c.in-ForList.is) c.listed.ensures
+kind-returns-in-ForList t c = makes_same c.args.self.now c.args.table.now c.listed.new.table (λ made ns. program.kind_view ns made) c.listed.result _ _ (for_list_at _ c.in-ForList.turns c.in-ForList.is) c.listed.ensures
 
 pub kind-block-requires : goal.kind-block-requires
 kind-block-requires t c =

@@ -2,7 +2,7 @@ use Rattle.std.proofs.Common.{suc, ◌+◌, map, take}
 use Rattle.algolw_typing.specs.Typed as typed
 use Rattle.algolw_typing.specs.ProgramView as program
 use Rattle.typed_drafts.specs.DraftView.{draft_view, kind_view, link_view, part_view, actual_view, item_view, labelled_view, decl_view, procedure_view}
-use Rattle.typed_drafts.specs.DraftParts.{list_view, bound_view}
+use Rattle.typed_drafts.specs.DraftParts.{list_view, bound_view, lent_view}
 use Rattle.typed_drafts.specs.Onto.{nodes_onto, links_onto, lists_onto, actuals_onto, items_onto, bounds_onto, decls_onto}
 use Rattle.typed_drafts.specs.StatementParts.{perhaps_of}
 use Rattle.typed_drafts.proofs.DraftSizes.{size, size_kind, size_perhaps, size_nodes, size_parts, size_links, size_lists, size_listing, size_actuals, size_actual, size_items, size_item, size_bounds, size_decls, size_decl}
@@ -22,6 +22,9 @@ decreases-boxed l = suc (size (draft_view l.draft.now))
 abbrev pub decreases-named : goal.decreases-named
 decreases-named l = suc (size_lists (lists_onto (map list_view l.lists.now) typed.no_lists))
 
+abbrev pub decreases-applied : goal.decreases-applied
+decreases-applied l = suc (size_actuals (actuals_onto (map actual_view l.applied.now.actuals.now) typed.no_actuals))
+
 abbrev pub decreases-chain : goal.decreases-chain
 decreases-chain l = suc (suc (size (draft_view l.first.now) + size_links (links_onto (map link_view l.links.now) typed.no_links)))
 
@@ -35,7 +38,7 @@ abbrev pub decreases-stepped : goal.decreases-stepped
 decreases-stepped l = suc (suc (size (draft_view l.start.now) + size_perhaps (perhaps_of l.step) + size (draft_view l.limit.now) + size (draft_view l.body.now)))
 
 abbrev pub decreases-listed : goal.decreases-listed
-decreases-listed l = suc (suc (size_nodes (nodes_onto (map draft_view l.values.now) typed.no_nodes) + size (draft_view l.body.now)))
+decreases-listed l = suc (suc (size_nodes (nodes_onto (map lent_view l.values.now) typed.no_nodes) + size (draft_view l.body.now)))
 
 abbrev pub decreases-block : goal.decreases-block
 decreases-block l = suc (suc (size_decls (decls_onto (map decl_view l.decls.now) typed.no_decls) + size_items (items_onto (map item_view l.items.now) typed.no_items)))
@@ -50,7 +53,7 @@ abbrev pub decreases-actual : goal.decreases-actual
 decreases-actual l = size_actual (actual_view l.actual.now)
 
 abbrev pub decreases-nodes : goal.decreases-nodes
-decreases-nodes l = size_nodes (nodes_onto (map draft_view l.drafts.now) typed.no_nodes)
+decreases-nodes l = size_nodes (nodes_onto (map lent_view l.drafts.now) typed.no_nodes)
 
 abbrev pub decreases-parts : goal.decreases-parts
 decreases-parts l = suc (size_parts (nodes_onto (map part_view l.parts.now) typed.no_nodes))
@@ -92,7 +95,7 @@ abbrev pub decreases-while_do : goal.decreases-while_do
 decreases-while_do l = suc (suc (size (draft_view l.condition.now) + size (draft_view l.body.now)))
 
 abbrev pub decreases-case_value : goal.decreases-case_value
-decreases-case_value l = suc (suc (size (draft_view l.subject.now) + size_nodes (nodes_onto (map draft_view l.values.now) typed.no_nodes)))
+decreases-case_value l = suc (suc (size (draft_view l.subject.now) + size_nodes (nodes_onto (map lent_view l.values.now) typed.no_nodes)))
 
 abbrev pub decreases-case_do : goal.decreases-case_do
 decreases-case_do l = suc (suc (size (draft_view l.subject.now) + size_parts (nodes_onto (map part_view l.parts.now) typed.no_nodes)))
@@ -104,7 +107,7 @@ abbrev pub decreases-procedure : goal.decreases-procedure
 decreases-procedure l = size_decl (procedure_view l.procedure.now)
 
 abbrev pub invariant-nodes-loop-draft : goal.invariant-nodes-loop-draft
-invariant-nodes-loop-draft l = Makes l.self l.initial.table l.table (λ ns. map (program.node_view ns) l.made.items) (map draft_view (take l.draft-index l.drafts))
+invariant-nodes-loop-draft l = Makes l.self l.initial.table l.table (λ ns. map (program.node_view ns) l.made.items) (map lent_view (take l.draft-index l.drafts))
 
 abbrev pub invariant-parts-loop-part : goal.invariant-parts-loop-part
 invariant-parts-loop-part l = Makes l.self l.initial.table l.table (λ ns. map (program.part_view ns) l.made.items) (map part_view (take l.part-index l.parts))
