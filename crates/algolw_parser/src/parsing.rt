@@ -7,7 +7,8 @@ ghost use Rattle.algolw_parser.specs.declared.parsing.Parsed.TheVariants.{Bad};
 ghost use Rattle.algolw_parser.specs.Parsed.{Means, Reads};
 
 use crate::phrases::block;
-use algolw_tree::{Phrase, Symbol, Token};
+use algolw_tree::{Phrase, Symbol};
+use kept_tokens::KeptToken;
 use std::alloc::{AllocError, Global};
 use token_reader::{Parser, Stop};
 use value_ops::{Diagnostic, Place};
@@ -56,7 +57,7 @@ fn bad(number: u8, place: Place) -> Parsed
 
 /// The program that a deck's tokens spell, of which the last is the end of the deck. Otherwise diagnostic 20 names the
 /// first token with which they begin no program, or 21 the first one that begins nesting 101, whichever is earlier.
-pub fn parse(alloc: Global, tokens: &[Token]) -> Result<Parsed, AllocError>
+pub fn parse(alloc: Global, tokens: &[KeptToken]) -> Result<Parsed, AllocError>
     requires { IsEnded tokens.now }
     ensures means { IfOk result (λ p. Means tokens.now p) }
     ensures reads { IfOk result (λ p. Reads tokens.now p) }

@@ -73,6 +73,6 @@ kept_as s n a b d e f g h = subst (λ x. Kept s x d n) (sym f) (subst (λ x. Kep
 pub finish_as : (s : Cursor) (a b : List Token) → a ≡ b → (all : List Token) × Gives s.place (text_at s) all × (b ≡ kept false all) → (all : List Token) × Gives s.place (text_at s) all × (a ≡ kept false all)
 finish_as s a b f (all, g, h) = (all, g, f ∙ h)
 
-pub empty_says : (cards : List (List ℕ)) (old new : List Token) → length cards < 1 → old ≡ [] → new ≡ old ++ (record { place = origin; kind = Finish } ∷ []) → (all : List Token) × Gives origin (text cards) all × (new ≡ kept false all)
-empty_says [] old new l e f = (record { place = origin; kind = Finish } ∷ [], finish, f ∙ ap (λ x. x ++ (record { place = origin; kind = Finish } ∷ [])) e)
-empty_says (c ∷ cards) old new l e f = absurd (omega arith)
+pub empty_says : (cards : List (List ℕ)) (last : Token) (new : List Token) → length cards < 1 → last ≡ record { place = origin; kind = Finish } → new ≡ last ∷ [] → (all : List Token) × Gives origin (text cards) all × (new ≡ kept false all)
+empty_says [] last new l e f = (record { place = origin; kind = Finish } ∷ [], finish, f ∙ ap (λ t. t ∷ []) e)
+empty_says (c ∷ cards) last new l e f = absurd (omega arith)

@@ -11,6 +11,7 @@ ghost use Rattle.algolw_scanner.specs.Decks.{scanned};
 
 use crate::cursor::{Cursor, Next};
 use algolw_tree::{Token, TokenKind, Word};
+use kept_tokens::KeptToken;
 use std::alloc::{AllocError, Global};
 use value_ops::{Card, Diagnostic, Place};
 
@@ -22,7 +23,7 @@ const TOKENS_OF_CARD: usize = 5;
 #[derive(Drop)]
 pub enum Scanned {
     /// Its tokens, of which the last is the end of the deck.
-    Tokens(Vec<Token>),
+    Tokens(Vec<KeptToken>),
     /// The first place that begins no token, with a number from 10 to 16.
     Bad(Diagnostic),
 }
@@ -41,14 +42,19 @@ fn is_end(kind: &TokenKind) -> bool
     matches!(kind, TokenKind::Word(Word::End))
 }
 
-/// Adds the token, unless it is a name directly after END.
-fn keep(tokens: &mut Vec<Token>, after_end: bool, token: Token) -> Result<(), AllocError>
+/// Keeps the token behind the others, unless it is a name directly after END.
+fn keep(
+    alloc: Global,
+    tokens: &mut Vec<KeptToken>,
+    after_end: bool,
+    token: Token,
+) -> Result<(), AllocError>
     ensures { OnOk result (tokens.new.items ≡ tokens.old.items ++ kept_one after_end token) }
 {
     if after_end && is_name(&token.kind) {
         return Ok(());
     }
-    tokens.push(token)?;
+    tokens.push(KeptToken::new(alloc, token)?)?;
     Ok(())
 }
 
@@ -71,7 +77,7 @@ fn tokens_from(alloc: Global, start: Cursor) -> Result<Scanned, AllocError>
                     place: cursor.place,
                     kind,
                 };
-                keep(&mut tokens, after_end, token)?;
+                keep(alloc, &mut tokens, after_end, token)?;
                 after_end = ends;
                 cursor = next;
             }
@@ -81,7 +87,7 @@ fn tokens_from(alloc: Global, start: Cursor) -> Result<Scanned, AllocError>
                     place,
                     kind: TokenKind::Finish,
                 };
-                keep(&mut tokens, after_end, token)?;
+                keep(alloc, &mut tokens, after_end, token)?;
                 return Ok(Scanned::Tokens(tokens));
             }
             Next::Fault(diagnostic) => return Ok(Scanned::Bad(diagnostic)),
@@ -110,12 +116,11 @@ fn deck_tokens(alloc: Global, deck: &[Card]) -> Result<Scanned, AllocError>
     let place = Place { card: 1, column: 1 };
     match deck {
         [] => {
-            let mut tokens = Vec::new(alloc);
-            tokens.push(Token {
+            let token = Token {
                 place,
                 kind: TokenKind::Finish,
-            })?;
-            Ok(Scanned::Tokens(tokens))
+            };
+            Ok(Scanned::Tokens(vec![in alloc; KeptToken::new(alloc, token)?]?))
         }
         [first, later @ ..] => tokens_from(
             alloc,

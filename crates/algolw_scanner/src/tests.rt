@@ -1,6 +1,7 @@
 use crate::{Scanned, scan};
 use algolw_tree::{Symbol, TokenKind, WORDS};
 use deck_reader::{Job, Reader};
+use kept_tokens::KeptToken;
 use std::alloc::Global;
 use std::process::Abort;
 use std::test::Fail;
@@ -51,10 +52,10 @@ fn spelled(symbol: Symbol) -> &'static str {
 }
 
 /// A token's kind as a text: a name behind a prime, a string in quotes, and the end as a dollar sign.
-fn shown(alloc: Global, kind: &TokenKind) -> Result<String, Fail> {
-    match kind {
+fn shown(alloc: Global, token: &KeptToken) -> Result<String, Fail> {
+    match token.kind(alloc)? {
         TokenKind::Word(word) => {
-            let entry = WORDS.iter().find(|entry| entry.1 == *word);
+            let entry = WORDS.iter().find(|entry| entry.1 == word);
             Ok(String::from_str(alloc, entry.map_or("?", |entry| entry.0))?)
         }
         TokenKind::Named(name) => {
@@ -67,7 +68,7 @@ fn shown(alloc: Global, kind: &TokenKind) -> Result<String, Fail> {
             let text = String::from_utf8_lossy(alloc, text.as_slice())?;
             Ok(format!(in alloc; "\"{text}\"")?)
         }
-        TokenKind::Symbol(symbol) => Ok(String::from_str(alloc, spelled(*symbol))?),
+        TokenKind::Symbol(symbol) => Ok(String::from_str(alloc, spelled(symbol))?),
         TokenKind::Finish => Ok(String::from_str(alloc, "$")?),
     }
 }
@@ -85,8 +86,8 @@ fn listed(alloc: Global, scanned: &Scanned) -> Result<String, Fail> {
                 if !all.is_empty() {
                     all.push(' ')?;
                 }
-                let kind = shown(alloc, &token.kind)?;
-                let place = token.place;
+                let kind = shown(alloc, token)?;
+                let place = token.place();
                 let one = format!(in alloc; "{kind}@{},{}", place.card, place.column)?;
                 all.push_str(one.as_str())?;
             }

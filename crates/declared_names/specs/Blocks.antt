@@ -1,29 +1,34 @@
 -- What is found of the bounds and the declarations of a block, as the rules see it.
-use Rattle.std.specs.Prelude.{◌≡◌, ◌++◌, List, map}
+use Rattle.std.specs.Prelude.{◌≡◌, ◌++◌, List, [], map}
 use Rattle.value_ops.specs.declared.places.Diagnostic.{Diagnostic}
 use Rattle.algolw_tree.specs.Tree as tree
 use Rattle.algolw_typing.specs.Scopes.{Scopes}
-use Rattle.algolw_typing.specs.Typed as typed
-use Rattle.algolw_typing.specs.Typing.{BoundsOut, no_more_bounds, DeclOut, typed_bounds}
-use Rattle.typed_drafts.specs.DraftView.{decl_view}
-use Rattle.typed_drafts.specs.DraftParts.{bound_view}
-use Rattle.typed_drafts.specs.Onto.{bounds_onto}
-use Rattle.typed_drafts.specs.declared.drafts.DraftDecl.{DraftDecl}
+use Rattle.algolw_typing.specs.Typing.{BoundsOut, DeclOut, typed_bounds}
+use Rattle.typed_findings.specs.Findings.{Found, finding_view, found_of_bounds, found_of_decl}
+use Rattle.typed_findings.specs.declared.findings.Log.{Log}
 use Rattle.declared_names.specs.declared.blocks.Bounds.{Bounds}
 
-abbrev pub bounds_view : Bounds → BoundsOut
-bounds_view b = record { inside = b.faults.now; bounds = bounds_onto (map bound_view b.drafts.now) typed.no_bounds }
+-- what is found of bounds, in them and of the phrases in them
+pub record BoundsFound : Type 0 where
+  pub inside : List Diagnostic
+  pub findings : List Found
 
--- the bounds of a declaration, which none but an array's has
-abbrev pub decl_bounds : Scopes → tree.Decl → BoundsOut
-decl_bounds around (tree.Array spec xs bounds) = typed_bounds around bounds
-decl_bounds around d = no_more_bounds
+abbrev pub bounds_found : BoundsOut → BoundsFound
+bounds_found o = record { inside = o.inside; findings = found_of_bounds o.bounds }
 
--- the bounds of each declaration
-abbrev pub each_bounds : Scopes → List tree.Decl → List BoundsOut
+abbrev pub bounds_view : Bounds → BoundsFound
+bounds_view b = record { inside = b.faults.now; findings = map finding_view b.findings.now }
+
+-- of the bounds of a declaration, which none but an array's has
+abbrev pub decl_bounds : Scopes → tree.Decl → BoundsFound
+decl_bounds around (tree.Array spec xs bounds) = bounds_found (typed_bounds around bounds)
+decl_bounds around d = record { inside = []; findings = [] }
+
+-- of the bounds of each declaration
+abbrev pub each_bounds : Scopes → List tree.Decl → List BoundsFound
 each_bounds around ds = map (decl_bounds around) ds
 
--- the faults that a declaration adds, and what it is
-pub record DeclFound (old new : List Diagnostic) (d : DraftDecl) (o : DeclOut) : Type 0 where
-  pub faults : new ≡ old ++ o.inside
-  pub decl : decl_view d ≡ o.decl
+-- the faults and the findings that a declaration adds
+pub record DeclFound (old new : Log) (o : DeclOut) : Type 0 where
+  pub faults : new.faults.items ≡ old.faults.items ++ o.inside
+  pub findings : map finding_view new.findings.items ≡ map finding_view old.findings.items ++ found_of_decl o.decl

@@ -1,5 +1,6 @@
-ghost use Rattle.std.specs.Prelude.{◌≡◌, ◌++◌, ◌∷◌, [], None, Some, IfOk, OnOk, map};
+ghost use Rattle.std.specs.Prelude.{◌≡◌, ◌++◌, ◌∷◌, [], List, None, Some, IfOk, OnOk, map};
 ghost use Rattle.algolw_tree.specs.Grammar.{decls_of, items_of};
+ghost use Rattle.algolw_tree.specs.Tree.{Placed};
 ghost use Rattle.algolw_tree.specs.View.{class_tree, decl_tree, item_tree, procedure_tree, spec_tree};
 ghost use Rattle.algolw_typing.specs.Actuals as actuals;
 ghost use Rattle.algolw_typing.specs.Meanings as meanings;
@@ -8,37 +9,37 @@ ghost use Rattle.algolw_typing.specs.Scopes as scopes;
 ghost use Rattle.algolw_typing.specs.Typing as rules;
 ghost use Rattle.algolw_typing.specs.Verdicts as verdicts;
 ghost use Rattle.typing_rules.specs.View as view;
-ghost use Rattle.declared_names.specs.Blocks.{bounds_view, decl_bounds, DeclFound};
+ghost use Rattle.declared_names.specs.Blocks.{bounds_found, bounds_view, decl_bounds, DeclFound};
 
 use crate::declarations::{
-    declare_alike, declare_class, declare_names, dimension_fault, draft_groups, formal_faults,
-    formal_types, good, group_faults, places, result_faults, result_type, spec_faults, spec_type,
+    declare_alike, declare_class, declare_names, dimension_fault, formal_faults, formal_types,
+    good, group_faults, log_groups, log_type, result_faults, result_type, spec_faults, spec_type,
 };
 use crate::known::{Declared, Facts, KnownScope};
 use crate::path::KnownPath;
 use algolw_tree::{ClassDecl, Decl, Item, Names, ProcDecl, Spelling, TypeSpec};
 use bumpalo::Bump;
 use std::alloc::{AllocError, Global};
-use typed_drafts::{DraftBound, DraftClass, DraftDecl};
+use typed_findings::{Finding, Log};
 use typing_rules::{Meaning, NoType, Reading, Verdict, bound_row};
 use value_ops::{Diagnostic, Place};
 
-/// What is found of the bounds of a declaration, with their faults.
+/// What is found of the bounds of a declaration.
 #[derive(Clone, Copy)]
 pub struct Bounds<'a> {
     /// The faults in them.
     pub faults: &'a [Diagnostic],
-    /// The bounds.
-    pub drafts: &'a [DraftBound<'a>],
+    /// The findings of the phrases in them.
+    pub findings: &'a [Finding<'a>],
 }
 
 /// The bounds of what is no array.
 pub fn no_bounds<'a>() -> Bounds<'a>
-    ensures { bounds_view result ≡ rules.no_more_bounds }
+    ensures { bounds_view result ≡ bounds_found rules.no_more_bounds }
 {
     Bounds {
         faults: &[],
-        drafts: &[],
+        findings: &[],
     }
 }
 
@@ -278,24 +279,21 @@ pub fn bound_verdict<'a>(place: Place, lower: Verdict<'a>, upper: Verdict<'a>) -
     }
 }
 
-/// Simple variables.
+/// Adds the faults and the findings of simple variables.
 pub fn simple<'a>(
     arena: &'a Bump,
     path: &KnownPath<'_, '_, 'a>,
     spec: &TypeSpec,
-    names: &Names,
-    faults: &mut Vec<Diagnostic>,
-) -> Result<DraftDecl<'a>, AllocError>
-    ensures { IfOk result (λ d. DeclFound faults.old.items faults.new.items d
-        (rules.simple_out path.now (spec_tree spec.now) names.now.items)) }
+    log: &mut Log<'a>,
+) -> Result<(), AllocError>
+    ensures { (xs : List Placed) → OnOk result (DeclFound log.old log.new
+        (rules.simple_out path.now (spec_tree spec.now) xs)) }
 {
-    spec_faults(path, spec, faults)?;
-    let simple_type = spec_type(arena, path, spec)?;
-    Ok(DraftDecl::Simple(simple_type, places(arena, names)?))
+    spec_faults(path, spec, &mut log.faults)?;
+    log_type(arena, path, spec, log)
 }
 
-/// Arrays of so many dimensions, with these bounds.
-#[tactic(auto, using(typed_drafts::proofs::DraftRows::slice_bounds))]
+/// Adds the faults and the findings of arrays of so many dimensions, with these bounds.
 pub fn array<'a>(
     arena: &'a Bump,
     path: &KnownPath<'_, '_, 'a>,
@@ -303,33 +301,30 @@ pub fn array<'a>(
     names: &Names,
     dimensions: usize,
     bounds: Bounds<'a>,
-    faults: &mut Vec<Diagnostic>,
-) -> Result<DraftDecl<'a>, AllocError>
-    ensures { IfOk result (λ d. DeclFound faults.old.items faults.new.items d
-        (rules.array_out path.now (spec_tree spec.now) names.now.items dimensions
-        (bounds_view bounds.entry))) }
+    log: &mut Log<'a>,
+) -> Result<(), AllocError>
+    ensures { (o : rules.BoundsOut) → bounds_view bounds.entry ≡ bounds_found o
+        → OnOk result (DeclFound log.old log.new
+        (rules.array_out path.now (spec_tree spec.now) names.now.items dimensions o)) }
 {
-    spec_faults(path, spec, faults)?;
-    dimension_fault(names, dimensions, faults)?;
-    faults.extend_from_slice(bounds.faults)?;
-    let element_type = spec_type(arena, path, spec)?;
-    let names = places(arena, names)?;
-    Ok(DraftDecl::Array(element_type, names, bounds.drafts))
+    spec_faults(path, spec, &mut log.faults)?;
+    dimension_fault(names, dimensions, &mut log.faults)?;
+    log.faults.extend_from_slice(bounds.faults)?;
+    log_type(arena, path, spec, log)?;
+    log.findings.extend_from_slice(bounds.findings)?;
+    Ok(())
 }
 
-/// A record class.
+/// Adds the faults and the findings of a record class.
 pub fn class<'a>(
     arena: &'a Bump,
     path: &KnownPath<'_, '_, 'a>,
     class: &ClassDecl,
-    faults: &mut Vec<Diagnostic>,
-) -> Result<DraftDecl<'a>, AllocError>
-    ensures { IfOk result (λ d. DeclFound faults.old.items faults.new.items d
+    log: &mut Log<'a>,
+) -> Result<(), AllocError>
+    ensures { OnOk result (DeclFound log.old log.new
         (rules.class_out path.now (class_tree class.now))) }
 {
-    group_faults(path, class, faults)?;
-    Ok(DraftDecl::Class(DraftClass {
-        name: class.name.1,
-        groups: draft_groups(arena, path, class)?,
-    }))
+    group_faults(path, class, &mut log.faults)?;
+    log_groups(arena, path, class, log)
 }

@@ -1,24 +1,21 @@
-ghost use Rattle.std.specs.Prelude.{◌≡◌, ◌++◌, ◌∷◌, [], IfOk, OnOk, map};
+ghost use Rattle.std.specs.Prelude.{◌≡◌, ◌++◌, ◌∷◌, [], Some, IfOk, OnOk, map};
 ghost use Rattle.std.specs.Option.{option_map};
 ghost use Rattle.algolw_tree.specs.View.{spec_tree, formal_tree, class_tree};
 ghost use Rattle.algolw_typing.specs.Scopes as rules;
 ghost use Rattle.algolw_typing.specs.Names.{declared};
-ghost use Rattle.algolw_typing.specs.Typing.{declare_at, typed_formals, typed_groups};
+ghost use Rattle.algolw_typing.specs.Typing.{typed_formals, typed_groups};
 ghost use Rattle.algolw_typing.specs.Verdicts.{diagnostic};
 ghost use Rattle.typing_rules.specs.View.{classes_of, value_type};
 ghost use Rattle.typing_rules.specs.MeaningView as view;
-ghost use Rattle.typed_drafts.specs.DraftView.{formal_view, placed_view};
-ghost use Rattle.declared_names.specs.Heads.{typed_formal};
+ghost use Rattle.typed_findings.specs.Findings.{as_type, finding_view, formals_found, groups_found};
 ghost use Rattle.declared_names.specs.KnownView.{alike, facts_view};
-ghost use Rattle.typed_drafts.specs.Groups.{group_view};
 
 use crate::known::{Declared, Facts, KnownScope};
 use crate::path::KnownPath;
 use algolw_tree::{ClassDecl, Formal, Mode, Names, Spelling, TypeSpec};
 use bumpalo::Bump;
-use bumpalo::collections::into_bump_slice;
 use std::alloc::{AllocError, Global};
-use typed_drafts::{DraftFormal, Places};
+use typed_findings::{Finding, Log};
 use typing_rules::{ClassSet, FormalType, Meaning, Reading, ValueType};
 use value_ops::{Diagnostic, Place};
 
@@ -364,47 +361,39 @@ pub fn formal_scope<'t, 'a>(
     Ok(scope)
 }
 
-/// The places of names, in the arena.
-pub fn places<'a>(arena: &'a Bump, names: &Names) -> Result<Places<'a>, AllocError>
-    ensures { IfOk result (λ ps. placed_view ps.now ≡ declare_at names.now.items) }
-{
-    let mut places = Vec::with_capacity(arena, names.len())?;
-    for (_, place) in names {
-        places.push(*place)?;
-    }
-    Ok(into_bump_slice(places))
-}
-
-/// Formals that are declared together as a draft.
-fn draft_formal<'a>(
+/// Adds the finding of a type that is written.
+pub(crate) fn log_type<'a>(
     arena: &'a Bump,
     path: &KnownPath,
-    formal: &Formal,
-) -> Result<DraftFormal<'a>, AllocError>
-    ensures { IfOk result (λ f. formal_view f ≡ typed_formal path.now (formal_tree formal.now)) }
+    spec: &TypeSpec,
+    log: &mut Log<'a>,
+) -> Result<(), AllocError>
+    ensures faults { OnOk result (log.new.faults.items ≡ log.old.faults.items) }
+    ensures findings { OnOk result (map finding_view log.new.findings.items
+        ≡ map finding_view log.old.findings.items
+        ++ as_type (Some (rules.spec_type path.now (spec_tree spec.now))) ∷ []) }
 {
-    Ok(DraftFormal {
-        spec: result_type(arena, path, &formal.spec)?,
-        mode: formal.mode,
-        names: places(arena, &formal.names)?,
-        dimensions: formal.dimensions,
-    })
+    let found_type = spec_type(arena, path, spec)?;
+    log.add(Finding::of_type(Some(found_type)))
 }
 
-/// The formals as drafts, in the arena.
-pub(crate) fn draft_formals<'a>(
+/// Adds the findings of formals: of those that are declared together their type, or that they have none.
+pub(crate) fn log_formals<'a>(
     arena: &'a Bump,
     path: &KnownPath,
     formals: &[Formal],
-) -> Result<&'a [DraftFormal<'a>], AllocError>
-    ensures { IfOk result (λ fs. map formal_view fs.now
-        ≡ typed_formals path.now (map formal_tree formals.now)) }
+    log: &mut Log<'a>,
+) -> Result<(), AllocError>
+    ensures faults { OnOk result (log.new.faults.items ≡ log.old.faults.items) }
+    ensures findings { OnOk result (map finding_view log.new.findings.items
+        ≡ map finding_view log.old.findings.items
+        ++ formals_found (typed_formals path.now (map formal_tree formals.now))) }
 {
-    let mut drafts = Vec::with_capacity(arena, formals.len())?;
     for formal in formals {
-        drafts.push(draft_formal(arena, path, formal)?)?;
+        let found_type = result_type(arena, path, &formal.spec)?;
+        log.add(Finding::of_type(found_type))?;
     }
-    Ok(into_bump_slice(drafts))
+    Ok(())
 }
 
 /// Adds the faults of the fields of a class.
@@ -422,20 +411,22 @@ pub(crate) fn group_faults(
     Ok(())
 }
 
-/// The fields of a class as drafts, in the arena.
-pub(crate) fn draft_groups<'a>(
+/// Adds the findings of the fields of a class: the type of those that are declared together.
+pub(crate) fn log_groups<'a>(
     arena: &'a Bump,
     path: &KnownPath,
     class: &ClassDecl,
-) -> Result<&'a [(ValueType<'a>, Places<'a>)], AllocError>
-    ensures { IfOk result (λ gs. map group_view gs.now
-        ≡ typed_groups path.now (class_tree class.now).groups) }
+    log: &mut Log<'a>,
+) -> Result<(), AllocError>
+    ensures faults { OnOk result (log.new.faults.items ≡ log.old.faults.items) }
+    ensures findings { OnOk result (map finding_view log.new.findings.items
+        ≡ map finding_view log.old.findings.items
+        ++ groups_found (typed_groups path.now (class_tree class.now).groups)) }
 {
-    let mut groups = Vec::with_capacity(arena, class.groups.len())?;
-    for (spec, names) in &class.groups {
-        groups.push((spec_type(arena, path, spec)?, places(arena, names)?))?;
+    for (spec, _) in &class.groups {
+        log_type(arena, path, spec, log)?;
     }
-    Ok(into_bump_slice(groups))
+    Ok(())
 }
 
 /// The types of the fields of a class, in the arena.

@@ -11,7 +11,7 @@ mod standard;
 pub use blocks::{
     Bounds, array, bound_verdict, class, declare, declare_labels, names_of_block, no_bounds, simple,
 };
-pub use declarations::{class_fault, formal_scope, places, twice};
+pub use declarations::{class_fault, formal_scope, twice};
 pub use known::{Declared, Facts, Known, KnownScope, meaning_of, place_of};
 pub use path::KnownPath;
-pub use procedures::{Head, procedure, procedure_verdict, read_head};
+pub use procedures::{Head, procedure_verdict, read_head};

@@ -9,7 +9,8 @@ ghost use Rattle.job_runner.specs.Compiled.{CompilesTo};
 
 use algolw_parser::{Parsed, parse};
 use algolw_scanner::{Scanned, scan};
-use algolw_tree::{Phrase, Token};
+use algolw_tree::Phrase;
+use kept_tokens::KeptToken;
 use stack_code::Code;
 use stack_codegen::compile;
 use std::alloc::{AllocError, Global};
@@ -37,29 +38,33 @@ pub fn compile_deck(alloc: Global, deck: &[Card]) -> Result<Compiled, AllocError
     }
 }
 
+/// For how many findings of a token there is room from the first on. A name has two: where it is declared, and what it gives.
+const FINDINGS_OF_TOKEN: usize = 2;
+
 /// Compiles the tokens of a deck. They are gone before what they spell is compiled.
-fn compile_tokens(alloc: Global, tokens: Vec<Token>) -> Result<Compiled, AllocError>
+fn compile_tokens(alloc: Global, tokens: Vec<KeptToken>) -> Result<Compiled, AllocError>
     requires ended { IsEnded tokens.items }
     requires are { (deck : List (List ℕ)) × AreTokens deck tokens.items }
     ensures { (deck : List (List ℕ)) → AreTokens deck tokens.items →
         IfOk result (λ compiled. CompilesTo deck compiled) }
 {
     let parsed = parse(alloc, tokens.as_slice())?;
+    let room = tokens.len().saturating_mul(FINDINGS_OF_TOKEN);
     drop(tokens);
     match parsed {
-        Parsed::Tree(phrase) => compile_phrase(alloc, phrase),
+        Parsed::Tree(phrase) => compile_phrase(alloc, phrase, room),
         Parsed::Bad(fault) => Ok(Compiled::Diagnosed(vec![in alloc; fault]?)),
     }
 }
 
-/// Compiles the program that the tokens of a deck spell.
-fn compile_phrase(alloc: Global, phrase: Phrase) -> Result<Compiled, AllocError>
+/// Compiles the program that the tokens of a deck spell. So many findings have room from the first on.
+fn compile_phrase(alloc: Global, phrase: Phrase, room: usize) -> Result<Compiled, AllocError>
     ghost x: { spelled.Phrase }
     requires is { x ≡ tree phrase }
     requires spelled { (deck : List (List ℕ)) × HasProgram deck x }
     ensures { (deck : List (List ℕ)) → HasProgram deck x → IfOk result (λ compiled. CompilesTo deck compiled) }
 {
-    match check(alloc, phrase)? {
+    match check(alloc, phrase, room)? {
         Checked::Good(program) => Ok(Compiled::Code(compile(alloc, &program)?)),
         Checked::Bad(faults) => Ok(Compiled::Diagnosed(faults)),
     }

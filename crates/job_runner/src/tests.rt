@@ -5,8 +5,9 @@ use crate::deck::{Compiled, compile_deck};
 use crate::text::push_number;
 use algolw_parser::{Parsed, parse};
 use algolw_scanner::{Scanned, scan};
-use algolw_tree::{Gives, Item, Kind, NameInfo, Node, NodeKind, Phrase, Program, Token, TypedItem};
+use algolw_tree::{Gives, Item, Kind, NameInfo, Node, NodeKind, Phrase, Program, TypedItem};
 use deck_reader::{Batch, Card, FeedError, Job, Reader};
+use kept_tokens::KeptToken;
 use record_classes::ClassTable;
 use std::alloc::{AllocError, Global};
 use std::process::Abort;
@@ -36,7 +37,7 @@ fn said(alloc: Global, fault: Diagnostic) -> Result<String, AllocError> {
 }
 
 /// The fault of the form of these tokens, or that they are parsed.
-fn form_of(alloc: Global, tokens: &[Token]) -> Result<String, AllocError>
+fn form_of(alloc: Global, tokens: &[KeptToken]) -> Result<String, AllocError>
     requires { IsEnded tokens.now }
 {
     match parse(alloc, tokens)? {
@@ -228,7 +229,7 @@ fn shape_in_block(block: &Phrase) -> &'static str {
 }
 
 /// The program that these tokens spell.
-fn tree_of_tokens(alloc: Global, tokens: &[Token]) -> Result<Option<Phrase>, AllocError>
+fn tree_of_tokens(alloc: Global, tokens: &[KeptToken]) -> Result<Option<Phrase>, AllocError>
     requires { IsEnded tokens.now }
 {
     match parse(alloc, tokens)? {
@@ -547,7 +548,7 @@ fn push_program(out: &mut Vec<u8>, program: &Program) -> Result<(), AllocError> 
 
 /// Adds the parts of the program that a phrase is.
 fn push_parts(out: &mut Vec<u8>, alloc: Global, phrase: Phrase) -> Result<(), AllocError> {
-    match check(alloc, phrase)? {
+    match check(alloc, phrase, 0)? {
         Checked::Good(program) => push_program(out, &program),
         Checked::Bad(_) => out.extend_from_slice(b" faults"),
     }

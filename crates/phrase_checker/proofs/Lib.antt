@@ -1,9 +1,12 @@
+pub mod Assigning
 pub mod BlockFound
 pub mod BlockSteps
-pub mod CaseSteps
-pub mod ForSteps
 pub mod Givens
+pub mod Growth
 pub mod InBoxes
 pub mod ListSteps
+pub mod OtherKinds
+pub mod PlainParts
 pub mod Steps
 pub mod Turns
+pub mod Wholes

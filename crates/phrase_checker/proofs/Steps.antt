@@ -1,164 +1,166 @@
--- The checker's steps: what is found of a phrase of one kind, and the turns of its loops.
-use Rattle.std.proofs.Common.{◌≡◌, ℕ, ◌+◌, ◌<◌, ◌≤◌, List, [], ◌∷◌, ◌++◌, Option, Some, Result, IfOk, length, get_or, drop, map, refl, sym, ap, subst, ◌∙◌, append_assoc, append-nil}
-use Rattle.std.proofs.lemmas.List.{drop_all}
+-- What is found of a phrase of one kind, by what is found of its parts.
+use Rattle.std.proofs.Common.{◌≡◌, ℕ, List, [], ◌∷◌, ◌++◌, Option, Some, None, refl, sym, ap, subst, ◌∙◌, append-nil}
 use Rattle.std.proofs.lemmas.Result.{IfOk-weaker}
-use Rattle.std.specs.declared.boxed.Box.{Box}
+use Rattle.std.specs.Option.{option_map}
 use Rattle.std.specs.declared.alloc.Global.{Global}
-use Rattle.value_ops.specs.declared.places.Diagnostic.{Diagnostic}
+use Rattle.std.specs.declared.boxed.Box.{Box}
+use Rattle.std.specs.Prelude.{Result, IfOk}
 use Rattle.value_ops.specs.declared.places.Place.{Place}
+use Rattle.algolw_tree.specs.Tree as tree
+use Rattle.algolw_tree.specs.View.{optional_tree, part_tree, tree as tree_of}
+use Rattle.algolw_tree.specs.declared.phrases.Part as part_in
+use Rattle.algolw_tree.specs.declared.phrases.Part.{Part}
 use Rattle.algolw_tree.specs.declared.phrases.Phrase.{Phrase}
-use Rattle.algolw_tree.specs.declared.phrases.Link.{Link}
-use Rattle.algolw_tree.specs.Grammar.{phrases_of, links_of}
-use Rattle.algolw_tree.specs.Tree as Tree
-use Rattle.algolw_tree.specs.View.{tree, link_tree}
-use Rattle.algolw_typing.specs.Rows.{link_row}
-use Rattle.algolw_typing.specs.Scopes.{Scopes}
+use Rattle.algolw_tree.specs.declared.phrases.RelOp.{RelOp}
+use Rattle.algolw_typing.specs.Names.{Entry, declared}
+use Rattle.algolw_typing.specs.Rows.{case_do_row, case_value_row, for_row, if_else_row, if_row, is_row, relation_row, while_row}
+use Rattle.algolw_typing.specs.Scopes.{Known, Scopes, class_fault, control_scope}
+use Rattle.algolw_typing.specs.Types.{Gives, Statement}
 use Rattle.algolw_typing.specs.Typed as typed
-use Rattle.algolw_typing.specs.Typing.{Out, PhrasesOut, LinksOut, case_value_out, faults, no_outs, onward, link_verdict, link_out, if_else_out, negated_out, absolute_out, signed_out, assert_out, typed_phrase, typed_kind, typed_phrases, typed_links}
-use Rattle.algolw_typing.specs.Verdicts.{Verdict, part, type_of}
+use Rattle.algolw_typing.specs.Typing.{Out, PhrasesOut, LinksOut, as_verdict, case_do_out, case_value_out, chain_out, class_stated, faults, for_list_out, gives, meaning_of, target, typed_kind, typed_links, typed_phrase}
+use Rattle.algolw_typing.specs.Verdicts.{Verdict, Good, all_parts, part, two_parts, type_of}
 use Rattle.typing_rules.specs.View as view
-use Rattle.phrase_checker.specs.declared.checker.Checker.{Checker}
-use Rattle.typed_phrases.specs.declared.making.Typed.{Typed}
-use Rattle.typed_phrases.specs.declared.making.Phrases.{Phrases}
-use Rattle.typed_phrases.specs.declared.making.Links.{Links}
-use Rattle.typed_drafts.specs.DraftView.{draft_view, link_view}
-use Rattle.typed_phrases.specs.Found.{Finds, found_view}
-use Rattle.typed_phrases.specs.FoundParts.{all_view, with_one_more}
-use Rattle.typed_drafts.specs.DraftParts.{lent_view}
-use Rattle.typed_phrases.specs.Prefixes.{prefixed, prefixed_out}
-use Rattle.typed_phrases.specs.declared.prefixes.Prefix.{Prefix}
-use Rattle.typed_phrases.specs.declared.prefixes.Prefix.TheVariants.{Not, Abs, Sign, Assert}
-use Rattle.phrase_checker.specs.Checked.{Checked, Noted, PhrasesChecked}
-use Rattle.typed_drafts.specs.Onto.{nodes_onto}
-use Rattle.typed_phrases.proofs.AllParts.{Behind}
-use Rattle.algolw_tree.specs.View.{optional_tree}
-use Rattle.declared_names.proofs.Placing.{next}
-use Rattle.phrase_checker.proofs.Turns.{PhrasesSoFar, LinksSoFar, all_behind, phrases_turn, links_turn}
+use Rattle.typing_rules.specs.declared.types.PhraseType.{PhraseType}
+use Rattle.typing_rules.specs.declared.verdicts.NoType.{NoType}
+use Rattle.typed_findings.specs.Findings.{Found, Name, found_of, found_of_links, found_of_nodes}
+use Rattle.typed_findings.specs.declared.findings.Log.{Log}
+use Rattle.typed_phrases.specs.Prefixes.{prefix_row, prefixed}
+use Rattle.typed_phrases.specs.Ranges.{range_given, step_given}
+use Rattle.typed_phrases.specs.declared.operators.Prefix.{Prefix}
+use Rattle.typed_phrases.specs.declared.operators.Prefix.TheVariants.{Not, Abs, Sign, Assert}
+use Rattle.typed_phrases.specs.declared.statements.Range.{Range}
+use Rattle.phrase_checker.specs.Checked.{Adds, CasesChecked, Checked, LinksChecked, Noted, PairChecked, PhrasesChecked, RangeChecked, StepChecked}
+use Rattle.phrase_checker.proofs.Growth.{as_well, behind, faults_alone, four_behind, nothing, seen, three_behind}
 
-abbrev pub IsChecked : {E : Type 0} → Result Typed E → Checker → Checker → Out → Type 0
-IsChecked r a b o = IfOk r (λ t. Checked a b t o)
+-- ---- the kind of a phrase in memory
 
-pub by_kind : {E : Type 0} (r : Result Typed E) (a b : Checker) (path : Scopes) (p f : Place) (k k' : Tree.Kind) → k ≡ k' → IsChecked r a b (typed_kind path p f k') → IsChecked r a b (typed_kind path p f k)
-by_kind r a b path p f k k' e h = subst (λ (z : Tree.Kind). IsChecked r a b (typed_kind path p f z)) (sym e) h
+abbrev pub IsChecked : {E : Type 0} → Result (Result PhraseType NoType) E → Log → Log → Out → Type 0
+IsChecked r a b o = IfOk r (λ v. Checked a b (view.verdict v) o)
 
-abbrev pub at_out : List Diagnostic → Verdict → typed.Node → Out
-at_out inside v n = record { inside = inside; verdict = v; node = n }
+pub by_kind : {E : Type 0} (r : Result (Result PhraseType NoType) E) (a b : Log) (path : Scopes) (p f : Place) (k k' : tree.Kind) → k ≡ k' → ((first : Place) → IsChecked r a b (typed_kind path p first k')) → IsChecked r a b (typed_kind path p f k)
+by_kind r a b path p f k k' e h = subst (λ (z : tree.Kind). IsChecked r a b (typed_kind path p f z)) (sym e) (h f)
 
--- what is found, with the faults inside that the rules give
-abbrev pub seen : Out → Typed → Out
-seen o t = at_out o.inside (view.verdict t.verdict) (draft_view t.draft.now)
-
-pub seen_is : (a b : Checker) (t : Typed) (o : Out) → Noted a b t o → seen o t ≡ o
-seen_is a b t o h = ap (λ (v : Verdict). at_out o.inside v (draft_view t.draft.now)) h.verdict ∙ ap (at_out o.inside o.verdict) h.node
-
--- a phrase of one part
-one_found : (build : Out → Out) → ((x : Out) → (build x).inside ≡ faults x) → (s0 s1 : Checker) (tx t : Typed) (x : Out) → Noted s0 s1 tx x → Finds t (build (seen x tx)) → Checked s0 s1 t (build x)
-one_found build inside s0 s1 tx t x hx h =
-    let whole : build (seen x tx) ≡ build x = ap build (seen_is s0 s1 tx x hx) in
-    record {
-      faults = hx.faults ∙ ap (λ fs. s0.faults.items ++ fs) (sym (inside x));
-      verdict = h.verdict ∙ ap (λ (o : Out). o.verdict) whole;
-      node = h.node ∙ ap (λ (o : Out). o.node) whole;
-    }
+-- ---- one part
 
 -- an operand behind what stands before it
-prefixed_is : (path : Scopes) (p f : Place) (x : Prefix) (a : Tree.Phrase) → typed_kind path p f (prefixed x a) ≡ prefixed_out p f x (typed_phrase path a)
-prefixed_is path p f Not a = refl
-prefixed_is path p f Abs a = refl
-prefixed_is path p f (Sign minus) a = refl
-prefixed_is path p f Assert a = refl
+pub prefixed_checked : (path : Scopes) (p f : Place) (x : Prefix) (a : tree.Phrase) (s0 s1 : Log) (v w : Verdict) → Noted s0 s1 v (typed_phrase path a) → w ≡ part (type_of v) (prefix_row x p) → Checked s0 s1 w (typed_kind path p f (prefixed x a))
+prefixed_checked path p f Not a s0 s1 v w h e = record { added = h.added; verdict = e ∙ ap (λ (u : Verdict). part (type_of u) (prefix_row Not p)) h.verdict }
+prefixed_checked path p f Abs a s0 s1 v w h e = record { added = h.added; verdict = e ∙ ap (λ (u : Verdict). part (type_of u) (prefix_row Abs p)) h.verdict }
+prefixed_checked path p f (Sign minus) a s0 s1 v w h e = record { added = h.added; verdict = e ∙ ap (λ (u : Verdict). part (type_of u) (prefix_row (Sign minus) p)) h.verdict }
+prefixed_checked path p f Assert a s0 s1 v w h e = record { added = h.added; verdict = e ∙ ap (λ (u : Verdict). part (type_of u) (prefix_row Assert p)) h.verdict }
 
-prefixed_found : (p f : Place) (x : Prefix) (s0 s1 : Checker) (tx t : Typed) (o : Out) → Noted s0 s1 tx o → Finds t (prefixed_out p f x (found_view tx)) → Checked s0 s1 t (prefixed_out p f x o)
-prefixed_found p f Not s0 s1 tx t o h found = one_found (negated_out p f) (λ y. refl) s0 s1 tx t o h found
-prefixed_found p f Abs s0 s1 tx t o h found = one_found (absolute_out p f) (λ y. refl) s0 s1 tx t o h found
-prefixed_found p f (Sign minus) s0 s1 tx t o h found = one_found (signed_out p f minus) (λ y. refl) s0 s1 tx t o h found
-prefixed_found p f Assert s0 s1 tx t o h found = one_found (assert_out p f) (λ y. refl) s0 s1 tx t o h found
+-- ---- two parts, the one behind the other
 
-pub prefixed_checked : {E : Type 0} (r : Result Typed E) (path : Scopes) (p f : Place) (x : Prefix) (s0 s1 : Checker) (tx : Typed) (a : Tree.Phrase) → Noted s0 s1 tx (typed_phrase path a)
-    → IfOk r (λ t. Finds t (prefixed_out p f x (found_view tx))) → IsChecked r s0 s1 (typed_kind path p f (prefixed x a))
-prefixed_checked r path p f x s0 s1 tx a h found =
-    subst (λ (o : Out). IsChecked r s0 s1 o) (sym (prefixed_is path p f x a))
-    (IfOk-weaker r (λ (t : Typed). Finds t (prefixed_out p f x (found_view tx))) (λ (t : Typed). Checked s0 s1 t (prefixed_out p f x (typed_phrase path a))) (λ t g. prefixed_found p f x s0 s1 tx t (typed_phrase path a) h g) found)
+pair_added : (s0 s1 s2 : Log) (v w : Verdict) (a b : Out) → Noted s0 s1 v a → Noted s1 s2 w b → Adds s0 s2 (faults a ++ faults b) (found_of a.node ++ found_of b.node)
+pair_added s0 s1 s2 v w a b h k = behind s0 s1 s2 (faults a) (faults b) (found_of a.node) (found_of b.node) h.added k.added
 
-pub three_behind : (a b c d : List Diagnostic) → a ++ b ++ c ++ d ≡ a ++ (b ++ c ++ d)
-three_behind a b c d = simp append_assoc
+by_two : (a b : Out) (v w : Verdict) (row : Gives → Gives → Verdict) → v ≡ a.verdict → w ≡ b.verdict → two_parts (type_of v) (type_of w) row ≡ two_parts (gives a) (gives b) row
+by_two a b v w row h k = ap (λ (u : Verdict). two_parts (type_of u) (type_of w) row) h ∙ ap (λ (u : Verdict). two_parts (gives a) (type_of u) row) k
 
--- a phrase of three parts
-pub three_found : (build : Out → Out → Out → Out) → ((x y z : Out) → (build x y z).inside ≡ faults x ++ faults y ++ faults z) → (s0 s1 s2 s3 : Checker) (tx ty tz t : Typed) (x y z : Out) → Noted s0 s1 tx x → Noted s1 s2 ty y → Noted s2 s3 tz z
-    → Finds t (build (seen x tx) (seen y ty) (seen z tz)) → Checked s0 s3 t (build x y z)
-three_found build inside s0 s1 s2 s3 tx ty tz t x y z hx hy hz h =
-    let whole : build (seen x tx) (seen y ty) (seen z tz) ≡ build x y z =
-    ap (λ (a : Out). build a (seen y ty) (seen z tz)) (seen_is s0 s1 tx x hx) ∙ ap (λ (b : Out). build x b (seen z tz)) (seen_is s1 s2 ty y hy) ∙ ap (build x y) (seen_is s2 s3 tz z hz) in
+pub relation_checked : (path : Scopes) (p f : Place) (op : RelOp) (a b : tree.Phrase) (s0 s2 : Log) (v w u : Verdict) → PairChecked path s0 s2 v w a b → u ≡ two_parts (type_of v) (type_of w) (relation_row op p) → Checked s0 s2 u (typed_kind path p f (tree.Relation op a b))
+relation_checked path p f op a b s0 s2 v w u h e = record {
+  added = pair_added s0 h.between s2 v w (typed_phrase path a) (typed_phrase path b) h.first h.second;
+  verdict = e ∙ by_two (typed_phrase path a) (typed_phrase path b) v w (relation_row op p) h.first.verdict h.second.verdict;
+}
+
+pub while_checked : (path : Scopes) (p f : Place) (a b : tree.Phrase) (s0 s2 : Log) (v w u : Verdict) → PairChecked path s0 s2 v w a b → u ≡ two_parts (type_of v) (type_of w) (while_row p) → Checked s0 s2 u (typed_kind path p f (tree.WhileDo a b))
+while_checked path p f a b s0 s2 v w u h e = record {
+  added = pair_added s0 h.between s2 v w (typed_phrase path a) (typed_phrase path b) h.first h.second;
+  verdict = e ∙ by_two (typed_phrase path a) (typed_phrase path b) v w (while_row p) h.first.verdict h.second.verdict;
+}
+
+-- a test of a class, whose name has this fault
+pub is_checked : (path : Scopes) (p f : Place) (a : tree.Phrase) (x : tree.Placed) (s0 s1 s2 s3 : Log) (v r : Verdict) → Noted s0 s1 v (typed_phrase path a) → s2.faults.items ≡ s1.faults.items ++ class_fault x (declared path x.0) → seen s2 ≡ seen s1
+    → Adds s2 s3 [] (Name (target (declared path x.0)) ∷ []) → (y : Option (Entry Known)) → y ≡ declared path x.0 → r ≡ class_stated (class_fault x y) (meaning_of y) (part (type_of v) (is_row p)) → Checked s0 s3 r (typed_kind path p f (tree.IsClass a x.0 x.1))
+is_checked path p f a x s0 s1 s2 s3 v r h d k n y same e =
+    let o : Out = typed_phrase path a in
+    let c : Option (Entry Known) = declared path x.0 in
+    let found : List Found = Name (target c) ∷ [] in
     record {
-      faults = hz.faults ∙ ap (λ fs. fs ++ faults z) (hy.faults ∙ ap (λ fs. fs ++ faults y) hx.faults) ∙ three_behind s0.faults.items (faults x) (faults y) (faults z) ∙ ap (λ fs. s0.faults.items ++ fs) (sym (inside x y z));
-      verdict = h.verdict ∙ ap (λ (o : Out). o.verdict) whole;
-      node = h.node ∙ ap (λ (o : Out). o.node) whole;
+      added = behind s0 s1 s3 (faults o) (class_fault x c) (found_of o.node) found h.added (as_well s1 s3 (class_fault x c ++ []) (class_fault x c) found found (append-nil (class_fault x c)) refl (behind s1 s2 s3 (class_fault x c) [] [] found (faults_alone s1 s2 (class_fault x c) d k) n));
+      verdict = e ∙ ap (λ (z : Option (Entry Known)). class_stated (class_fault x z) (meaning_of z) (part (type_of v) (is_row p))) same ∙ ap (λ (u : Verdict). class_stated (class_fault x c) (meaning_of c) (part (type_of u) (is_row p))) h.verdict;
     }
 
-four_behind : (a b c d e : List Diagnostic) → a ++ b ++ c ++ d ++ e ≡ a ++ (b ++ c ++ d ++ e)
-four_behind a b c d e = simp append_assoc
+-- ---- four parts
 
--- a phrase of four parts
-pub four_found : (build : Out → Out → Out → Out → Out) → ((w x y z : Out) → (build w x y z).inside ≡ faults w ++ faults x ++ faults y ++ faults z) → (s0 s1 s2 s3 s4 : Checker) (tw tx ty tz t : Typed) (w x y z : Out) → Noted s0 s1 tw w → Noted s1 s2 tx x → Noted s2 s3 ty y → Noted s3 s4 tz z
-    → Finds t (build (seen w tw) (seen x tx) (seen y ty) (seen z tz)) → Checked s0 s4 t (build w x y z)
-four_found build inside s0 s1 s2 s3 s4 tw tx ty tz t w x y z hw hx hy hz h =
-    let whole : build (seen w tw) (seen x tx) (seen y ty) (seen z tz) ≡ build w x y z =
-    ap (λ (a : Out). build a (seen x tx) (seen y ty) (seen z tz)) (seen_is s0 s1 tw w hw) ∙ ap (λ (a : Out). build w a (seen y ty) (seen z tz)) (seen_is s1 s2 tx x hx) ∙ ap (λ (b : Out). build w x b (seen z tz)) (seen_is s2 s3 ty y hy) ∙ ap (build w x y) (seen_is s3 s4 tz z hz) in
-    record {
-      faults = hz.faults ∙ ap (λ fs. fs ++ faults z) (hy.faults ∙ ap (λ fs. fs ++ faults y) (hx.faults ∙ ap (λ fs. fs ++ faults x) hw.faults)) ∙ four_behind s0.faults.items (faults w) (faults x) (faults y) (faults z) ∙ ap (λ fs. s0.faults.items ++ fs) (sym (inside w x y z));
-      verdict = h.verdict ∙ ap (λ (o : Out). o.verdict) whole;
-      node = h.node ∙ ap (λ (o : Out). o.node) whole;
-    }
+-- a FOR over a range with a step or none, whose parts and body have these verdicts
+pub range_checked : (path : Scopes) (p f : Place) (x : List ℕ) (s0 s3 s4 : Log) (range : Range) (a : tree.Phrase) (s : tree.Perhaps) (b c : tree.Phrase) (w r : Verdict)
+    → RangeChecked path s0 s3 range a s b → Noted s3 s4 w (typed_phrase (control_scope p x ∷ path) c) → r ≡ all_parts (range_given range) (λ gs. part (type_of w) (for_row p gs)) → Checked s0 s4 r (typed_kind path p f (tree.ForStep x a s b c))
+range_checked path p f x s0 s3 s4 range a s b c w r h k e = by_step s (option_map view.verdict range.step) h.step refl where
+  y : Out
+  y = typed_phrase path a
 
-pub if_else_checked : {E : Type 0} (r : Result Typed E) (path : Scopes) (p f : Place) (s0 s1 s2 s3 : Checker) (tc ta tb : Typed) (c a : Tree.Phrase) (o : Option (Box Phrase Global)) (b : Box Phrase Global) (x : Phrase) → o ≡ Some b → x ≡ b.value
-    → Noted s0 s1 tc (typed_phrase path c) → Noted s1 s2 ta (typed_phrase path a) → Noted s2 s3 tb (typed_phrase path (tree x)) → IfOk r (λ t. Finds t (if_else_out p f (found_view tc) (found_view ta) (found_view tb)))
-    → IsChecked r s0 s3 (typed_kind path p f (Tree.IfThen c a (optional_tree o)))
-if_else_checked r path p f s0 s1 s2 s3 tc ta tb c a o b x e e1 hc ha hb h =
-    let k : Tree.IfThen c a (optional_tree o) ≡ Tree.IfThen c a (Tree.There (tree x)) = ap (λ q. Tree.IfThen c a (optional_tree q)) e ∙ ap (λ (y : Phrase). Tree.IfThen c a (Tree.There (tree y))) (sym e1) in
-    by_kind r s0 s3 path p f _ _ k (IfOk-weaker r (λ (t : Typed). Finds t (if_else_out p f (found_view tc) (found_view ta) (found_view tb))) (λ (t : Typed). Checked s0 s3 t (if_else_out p f (typed_phrase path c) (typed_phrase path a) (typed_phrase path (tree x)))) (λ t g. three_found (if_else_out p f) (λ y z w. refl) s0 s1 s2 s3 tc ta tb t (typed_phrase path c) (typed_phrase path a) (typed_phrase path (tree x)) hc ha hb g) h)
+  z : Out
+  z = typed_phrase path b
 
-pub phrases_step : (path : Scopes) (whole : PhrasesOut) (start : List Diagnostic) (xs : List Phrase) (i : ℕ) (x : Phrase) (a b : Checker) (old new : Phrases) (t : Typed) → i < length xs → x ≡ get_or xs i x → Noted a b t (typed_phrase path (tree x))
-    → all_view new.gives ≡ with_one_more (all_view old.gives) (type_of (view.verdict t.verdict)) → map lent_view new.drafts.items ≡ map lent_view old.drafts.items ++ draft_view t.draft.now ∷ []
-    → PhrasesSoFar start a.faults.items (all_view old.gives) (map lent_view old.drafts.items) whole (typed_phrases path (phrases_of (map tree (drop i xs))))
-    → PhrasesSoFar start b.faults.items (all_view new.gives) (map lent_view new.drafts.items) whole (typed_phrases path (phrases_of (map tree (drop (i + 1) xs))))
-phrases_step path whole start xs i x a b old new t within is n g d h =
-    phrases_turn start a.faults.items b.faults.items (all_view old.gives) (all_view new.gives) (map lent_view old.drafts.items) (map lent_view new.drafts.items) whole _ (typed_phrases path (phrases_of (map tree (drop (i + 1) xs)))) (typed_phrase path (tree x)) h
-    (ap (λ ys. typed_phrases path (phrases_of (map tree ys))) (next xs i x within is)) n.faults (g ∙ ap (λ (v : Verdict). with_one_more (all_view old.gives) (type_of v)) n.verdict) (d ∙ ap (λ y. map lent_view old.drafts.items ++ y ∷ []) n.node)
+  body : Out
+  body = typed_phrase (control_scope p x ∷ path) c
 
-pub phrases_end : (path : Scopes) (xs : List Phrase) (i : ℕ) (a b : Checker) (found : Phrases) → length xs ≤ i
-    → PhrasesSoFar a.faults.items b.faults.items (all_view found.gives) (map lent_view found.drafts.items) (typed_phrases path (phrases_of (map tree xs))) (typed_phrases path (phrases_of (map tree (drop i xs))))
-    → PhrasesChecked a b found (typed_phrases path (phrases_of (map tree xs)))
-phrases_end path xs i a b found past h =
-    let last : typed_phrases path (phrases_of (map tree (drop i xs))) ≡ no_outs = ap (λ ys. typed_phrases path (phrases_of (map tree ys))) (drop_all i xs past) in
-    record {
-      faults = sym (append-nil b.faults.items) ∙ sym (h.faults ∙ ap (λ (o : PhrasesOut). b.faults.items ++ o.inside) last);
-      found = record {
-        gives = λ row. h.gives row ∙ ap (λ (o : PhrasesOut). Behind (all_view found.gives) o.gives row) last ∙ all_behind (all_view found.gives) row;
-        nodes = sym (h.nodes ∙ ap (λ (o : PhrasesOut). nodes_onto (map lent_view found.drafts.items) o.nodes) last);
-      };
-    }
+  -- what the parts give, by the verdict of the step
+  given_by : Option Verdict → List (Option Gives)
+  given_by None = []
+  given_by (Some v) = type_of v ∷ []
 
--- a CASE between values
-value_found : (p f : Place) (s0 s1 s2 : Checker) (ts t : Typed) (found : Phrases) (o : Out) (os : PhrasesOut) → Noted s0 s1 ts o → PhrasesChecked s1 s2 found os → Finds t (case_value_out p f (found_view ts) os) → Checked s0 s2 t (case_value_out p f o os)
-value_found p f s0 s1 s2 ts t found o os ho hs h =
-    let whole : case_value_out p f (seen o ts) os ≡ case_value_out p f o os = ap (λ (x : Out). case_value_out p f x os) (seen_is s0 s1 ts o ho) in
-    record {
-      faults = hs.faults ∙ ap (λ xs. xs ++ os.inside) ho.faults ∙ append_assoc s0.faults.items (faults o) os.inside;
-      verdict = h.verdict ∙ ap (λ (x : Out). x.verdict) whole;
-      node = h.node ∙ ap (λ (x : Out). x.node) whole;
-    }
+  steps : (v : Option (Result PhraseType NoType)) → step_given v ≡ given_by (option_map view.verdict v)
+  steps None = refl
+  steps (Some v) = refl
 
-pub value_checked : {E : Type 0} (r : Result Typed E) (p f : Place) (s0 s1 s2 : Checker) (ts : Typed) (found : Phrases) (o : Out) (os : PhrasesOut) → Noted s0 s1 ts o → PhrasesChecked s1 s2 found os
-    → IfOk r (λ t. Finds t (case_value_out p f (found_view ts) os)) → IsChecked r s0 s2 (case_value_out p f o os)
-value_checked r p f s0 s1 s2 ts found o os ho hs h =
-    IfOk-weaker r (λ (t : Typed). Finds t (case_value_out p f (found_view ts) os)) (λ (t : Typed). Checked s0 s2 t (case_value_out p f o os)) (λ t g. value_found p f s0 s1 s2 ts t found o os ho hs g) h
+  row : List (Option Gives) → Verdict → Verdict
+  row gs v = all_parts gs (λ all. part (type_of v) (for_row p all))
 
-pub links_step : (path : Scopes) (whole : LinksOut) (start : List Diagnostic) (xs : List Link) (i : ℕ) (x : Link) (a b : Checker) (old new : Links) (t : Typed) → i < length xs → x ≡ get_or xs i x → Noted a b t (typed_phrase path (tree x.right))
-    → view.verdict new.verdict ≡ onward (view.verdict old.verdict) (λ left. part (type_of (view.verdict t.verdict)) (link_row x.op x.place left)) → map link_view new.drafts.items ≡ map link_view old.drafts.items ++ typed.Linked x.op x.place (draft_view t.draft.now) ∷ []
-    → LinksSoFar start a.faults.items (map link_view old.drafts.items) whole (typed_links path (view.verdict old.verdict) (links_of (map link_tree (drop i xs))))
-    → LinksSoFar start b.faults.items (map link_view new.drafts.items) whole (typed_links path (view.verdict new.verdict) (links_of (map link_tree (drop (i + 1) xs))))
-links_step path whole start xs i x a b old new t within is n v d h =
-    let o : Out = typed_phrase path (tree x.right) in
-    let w : link_verdict x.op x.place (view.verdict old.verdict) o ≡ view.verdict new.verdict = sym (v ∙ ap (λ (u : Verdict). onward (view.verdict old.verdict) (λ left. part (type_of u) (link_row x.op x.place left))) n.verdict) in
-    links_turn start a.faults.items b.faults.items (map link_view old.drafts.items) (map link_view new.drafts.items) whole _ (typed_links path (view.verdict new.verdict) (links_of (map link_tree (drop (i + 1) xs)))) x.op x.place o h
-    (ap (λ ys. typed_links path (view.verdict old.verdict) (links_of (map link_tree ys))) (next xs i x within is) ∙ ap (λ (u : Verdict). link_out x.op x.place o (typed_links path u (links_of (map link_tree (drop (i + 1) xs))))) w) n.faults (d ∙ ap (λ y. map link_view old.drafts.items ++ typed.Linked x.op x.place y ∷ []) n.node)
+  whole : r ≡ row (gives y ∷ given_by (option_map view.verdict range.step) ++ gives z ∷ []) body.verdict
+  whole = e ∙ ap (λ (q : Verdict). row (type_of q ∷ step_given range.step ++ type_of (view.verdict range.limit) ∷ []) w) h.start.verdict ∙ ap (λ (gs : List (Option Gives)). row (gives y ∷ gs ++ type_of (view.verdict range.limit) ∷ []) w) (steps range.step)
+      ∙ ap (λ (q : Verdict). row (gives y ∷ given_by (option_map view.verdict range.step) ++ type_of q ∷ []) w) h.limit.verdict ∙ ap (λ (q : Verdict). row (gives y ∷ given_by (option_map view.verdict range.step) ++ gives z ∷ []) q) k.verdict
+
+  by_step : (q : tree.Perhaps) (v : Option Verdict) → StepChecked path h.behind_start h.behind_step v q → option_map view.verdict range.step ≡ v → Checked s0 s4 r (typed_kind path p f (tree.ForStep x a q b c))
+  by_step tree.Missing None g same = record {
+    added = three_behind s0 h.behind_step s3 s4 (faults y) (faults z) (faults body) (found_of y.node ++ []) (found_of z.node) (found_of body.node)
+        (as_well s0 h.behind_step (faults y ++ []) (faults y) (found_of y.node ++ []) (found_of y.node ++ []) (append-nil (faults y)) refl (behind s0 h.behind_start h.behind_step (faults y) [] (found_of y.node) [] h.start.added g)) h.limit.added k.added;
+    verdict = whole ∙ ap (λ (o : Option Verdict). row (gives y ∷ given_by o ++ gives z ∷ []) body.verdict) same;
+  }
+  by_step (tree.There q) (Some v) g same =
+      let t : Out = typed_phrase path q in
+      record {
+        added = four_behind s0 h.behind_start h.behind_step s3 s4 (faults y) (faults t) (faults z) (faults body) (found_of y.node) (found_of t.node) (found_of z.node) (found_of body.node) h.start.added g.added h.limit.added k.added;
+        verdict = whole ∙ ap (λ (o : Option Verdict). row (gives y ∷ given_by o ++ gives z ∷ []) body.verdict) same ∙ ap (λ (u : Verdict). row (gives y ∷ type_of u ∷ gives z ∷ []) body.verdict) g.verdict;
+      }
+  by_step tree.Missing (Some v) g same = absurd g
+  by_step (tree.There q) None g same = absurd g
+
+-- ---- parts in a row
+
+-- an empty statement of a CASE
+pub empty_noted : (path : Scopes) (s : Log) (x : Part) (q : Place) → x ≡ part_in.Empty q → Noted s s (Good Statement) (typed_phrase path (part_tree x))
+empty_noted path s x q is = subst (λ (y : Part). Noted s s (Good Statement) (typed_phrase path (part_tree y))) (sym is) (record { added = nothing s; verdict = refl })
+
+pub chain_checked : (p f : Place) (s0 s1 s2 : Log) (v w : Verdict) (a : Out) (more : LinksOut) → Noted s0 s1 v a → LinksChecked s1 s2 w more → Checked s0 s2 w (chain_out p f a more)
+chain_checked p f s0 s1 s2 v w a more h k = record {
+  added = behind s0 s1 s2 (faults a) more.inside (found_of a.node) (found_of_links more.links) h.added k.added;
+  verdict = k.verdict;
+}
+
+pub chain_found : {E : Type 0} (r : Result (Result PhraseType NoType) E) (path : Scopes) (p f : Place) (a : tree.Phrase) (links : tree.Links) (s0 s1 s2 : Log) (v u : Verdict) → u ≡ as_verdict (gives (typed_phrase path a)) → Noted s0 s1 v (typed_phrase path a)
+    → IfOk r (λ w. LinksChecked s1 s2 (view.verdict w) (typed_links path u links)) → IsChecked r s0 s2 (typed_kind path p f (tree.Chain a links))
+chain_found r path p f a links s0 s1 s2 v u e h k =
+    let o : Out = typed_phrase path a in
+    let more : LinksOut = typed_links path (as_verdict (gives o)) links in
+    IfOk-weaker r (λ (w : Result PhraseType NoType). LinksChecked s1 s2 (view.verdict w) more) (λ (w : Result PhraseType NoType). Checked s0 s2 (view.verdict w) (chain_out p f o more))
+    (λ (w : Result PhraseType NoType) l. chain_checked p f s0 s1 s2 v (view.verdict w) o more h l) (subst (λ (x : Verdict). IfOk r (λ w. LinksChecked s1 s2 (view.verdict w) (typed_links path x links))) e k)
+
+pub case_value_checked : (p f : Place) (s0 s1 s2 : Log) (v r : Verdict) (all : Option (List Gives)) (a : Out) (os : PhrasesOut) → Noted s0 s1 v a → PhrasesChecked s1 s2 all os → r ≡ part (type_of v) (λ g. all_parts os.gives (case_value_row p g)) → Checked s0 s2 r (case_value_out p f a os)
+case_value_checked p f s0 s1 s2 v r all a os h k e = record {
+  added = behind s0 s1 s2 (faults a) os.inside (found_of a.node) (found_of_nodes os.nodes) h.added k.added;
+  verdict = e ∙ ap (λ (q : Verdict). part (type_of q) (λ g. all_parts os.gives (case_value_row p g))) h.verdict;
+}
+
+pub case_do_checked : (p f : Place) (s0 s1 s2 : Log) (v r : Verdict) (all : Option Gives) (a : Out) (os : PhrasesOut) → Noted s0 s1 v a → CasesChecked s1 s2 all os → r ≡ part (type_of v) (λ g. all_parts os.gives (case_do_row p g)) → Checked s0 s2 r (case_do_out p f a os)
+case_do_checked p f s0 s1 s2 v r all a os h k e = record {
+  added = behind s0 s1 s2 (faults a) os.inside (found_of a.node) (found_of_nodes os.nodes) h.added k.added;
+  verdict = e ∙ ap (λ (q : Verdict). part (type_of q) (λ g. all_parts os.gives (case_do_row p g))) h.verdict;
+}
+
+pub for_list_checked : (p f : Place) (s0 s1 s2 : Log) (w r : Verdict) (all : Option (List Gives)) (os : PhrasesOut) (body : Out) → PhrasesChecked s0 s1 all os → Noted s1 s2 w body → r ≡ all_parts os.gives (λ gs. part (type_of w) (for_row p gs)) → Checked s0 s2 r (for_list_out p f os body)
+for_list_checked p f s0 s1 s2 w r all os body h k e = record {
+  added = behind s0 s1 s2 os.inside (faults body) (found_of_nodes os.nodes) (found_of body.node) h.added k.added;
+  verdict = e ∙ ap (λ (q : Verdict). all_parts os.gives (λ gs. part (type_of q) (for_row p gs))) k.verdict;
+}

@@ -1,144 +1,140 @@
 -- What checking a part of a program finds, and which faults it adds.
-use Rattle.std.specs.Prelude.{◌≡◌, ℕ, Bool, List, [], ◌∷◌, ◌++◌, map, Option, Some, None}
+use Rattle.std.specs.Prelude.{◌≡◌, Bool, List, [], ◌∷◌, ◌++◌, map, Option, Some, None}
+use Rattle.std.specs.Option.{option_map}
+use Rattle.value_ops.specs.declared.places.Diagnostic.{Diagnostic}
 use Rattle.value_ops.specs.declared.places.Place.{Place}
-use Rattle.algolw_tree.specs.Tree.{Placed}
 use Rattle.algolw_tree.specs.Tree as tree
+use Rattle.algolw_typing.specs.Actuals.{Wanted}
+use Rattle.algolw_typing.specs.Meanings.{Part}
 use Rattle.algolw_typing.specs.Rows.{bound_row, item_row}
 use Rattle.algolw_typing.specs.Scopes.{Scopes}
 use Rattle.algolw_typing.specs.Typed as typed
-use Rattle.algolw_typing.specs.Typing.{Out, faults, gives, PhrasesOut, LinksOut, PartsOut, BoundsOut, DeclsOut, ItemsOut, declare_at, first_token, has_labels, then_item, typed_kind, typed_phrase}
+use Rattle.algolw_typing.specs.Types.{Gives}
+use Rattle.algolw_typing.specs.Typing.{Out, faults, gives, PhrasesOut, LinksOut, PartsOut, BoundsOut, DeclsOut, ItemsOut, first_token, given, has_labels, parts_of_kind, right_end, typed_phrase, uncounted}
 use Rattle.algolw_typing.specs.Verdicts.{Verdict, fault_of, part as with_part, two_parts}
-use Rattle.typing_rules.specs.MeaningView.{part}
 use Rattle.typing_rules.specs.View as view
-use Rattle.typed_drafts.specs.DraftView.{draft_view, actual_view, item_view, part_view}
-use Rattle.typed_drafts.specs.DraftParts.{list_view, bound_view}
-use Rattle.typed_drafts.specs.Onto.{bounds_onto}
-use Rattle.typed_drafts.specs.declared.drafts.DraftBound.{DraftBound}
-use Rattle.typed_drafts.specs.declared.drafts.DraftDecl.{DraftDecl}
-use Rattle.typed_phrases.specs.Items.{decls_view, items_view}
-use Rattle.typed_phrases.specs.Fronts.{complete, ListOut, ActualOut}
-use Rattle.typed_phrases.specs.FrontViews.{front_view, parts_view}
-use Rattle.typed_phrases.specs.Cases.{AreFound, both_give}
-use Rattle.typed_phrases.specs.declared.actuals.Parts.{Parts}
-use Rattle.typed_phrases.specs.declared.cases.Cases.{Cases}
-use Rattle.typed_phrases.specs.declared.designators.Lists.{Lists}
-use Rattle.typed_phrases.specs.declared.items.Items.{Items}
-use Rattle.phrase_checker.specs.declared.checker.Checker.{Checker}
-use Rattle.typed_phrases.specs.declared.making.Spot.{Spot}
+use Rattle.typed_findings.specs.Findings.{Found, finding_view, found_of, found_of_kind, found_of_nodes, found_of_links, found_of_lists, found_of_actuals, found_of_bounds, found_of_decls, found_of_items, own_finding}
+use Rattle.typed_findings.specs.declared.findings.Log.{Log}
+use Rattle.typed_phrases.specs.Cases.{together}
+use Rattle.typed_phrases.specs.FoundParts.{AreGiven}
+use Rattle.typed_phrases.specs.Fronts.{ActualOut, ListOut}
+use Rattle.typed_phrases.specs.Readings.{Reads, plain}
+use Rattle.typed_phrases.specs.declared.actuals.Given.{Given}
 use Rattle.typed_phrases.specs.declared.statements.Range.{Range}
-use Rattle.typed_phrases.specs.declared.making.Typed.{Typed}
-use Rattle.typed_phrases.specs.declared.making.Phrases.{Phrases}
-use Rattle.typed_phrases.specs.declared.making.Links.{Links}
-use Rattle.typed_phrases.specs.FoundParts.{AreTyped, given_view, links_view}
 
--- what the rules find of a phrase of a kind that stands at a spot
-abbrev pub kind_at : Scopes → Spot → tree.Kind → Out
-kind_at path spot k = typed_kind path spot.place spot.first k
+-- these faults are added, and this is found
+pub record Adds (old new : Log) (ds : List Diagnostic) (xs : List Found) : Type 0 where
+  pub faults : new.faults.items ≡ old.faults.items ++ ds
+  pub findings : map finding_view new.findings.items ≡ map finding_view old.findings.items ++ xs
 
--- the faults inside a phrase are added
-pub record Checked (old new : Checker) (t : Typed) (o : Out) : Type 0 where
-  pub faults : new.faults.items ≡ old.faults.items ++ o.inside
-  pub verdict : view.verdict t.verdict ≡ o.verdict
-  pub node : draft_view t.draft.now ≡ o.node
+-- what is found of a phrase itself, by its verdict: nothing where it is empty
+abbrev pub found_itself : tree.Phrase → Verdict → List Found
+found_itself (tree.At p f tree.Empty) v = []
+found_itself (tree.At p f k) v = own_finding f v ∷ []
 
--- and its own
-pub record Noted (old new : Checker) (t : Typed) (o : Out) : Type 0 where
-  pub faults : new.faults.items ≡ old.faults.items ++ faults o
-  pub verdict : view.verdict t.verdict ≡ o.verdict
-  pub node : draft_view t.draft.now ≡ o.node
+-- what is inside a phrase is added
+pub record Checked (old new : Log) (v : Verdict) (o : Out) : Type 0 where
+  pub added : Adds old new o.inside (found_of_kind (typed.kind o.node))
+  pub verdict : v ≡ o.verdict
+
+-- and what is found of it itself
+pub record Noted (old new : Log) (v : Verdict) (o : Out) : Type 0 where
+  pub added : Adds old new (faults o) (found_of o.node)
+  pub verdict : v ≡ o.verdict
 
 -- two phrases, the one behind the other
-pub record PairChecked (path : Scopes) (old new : Checker) (both : Typed × Typed) (a b : tree.Phrase) : Type 0 where
-  pub between : Checker
-  pub first : Noted old between both.0 (typed_phrase path a)
-  pub second : Noted between new both.1 (typed_phrase path b)
+pub record PairChecked (path : Scopes) (old new : Log) (v w : Verdict) (a b : tree.Phrase) : Type 0 where
+  pub between : Log
+  pub first : Noted old between v (typed_phrase path a)
+  pub second : Noted between new w (typed_phrase path b)
+
+-- an assignment, and what the value at its right end gives
+pub record AssignmentChecked (old new : Log) (v : Verdict) (g : Option Gives) (o : Out) : Type 0 where
+  pub checked : Checked old new v o
+  pub last : g ≡ right_end o.node
+
+-- the value of an assignment
+pub record ValueChecked (old new : Log) (v : Verdict) (g : Option Gives) (o : Out) : Type 0 where
+  pub added : Adds old new (faults o) (found_of (uncounted o.node))
+  pub verdict : v ≡ o.verdict
+  pub last : g ≡ right_end o.node
 
 -- the step of a FOR, where there is one
-abbrev pub StepChecked : Scopes → Checker → Checker → Option Typed → tree.Perhaps → Type 0
-StepChecked path old new None tree.Missing = new.faults.items ≡ old.faults.items
-StepChecked path old new (Some t) (tree.There a) = Noted old new t (typed_phrase path a)
-StepChecked path old new t step = ⊥
+abbrev pub StepChecked : Scopes → Log → Log → Option Verdict → tree.Perhaps → Type 0
+StepChecked path old new None tree.Missing = Adds old new [] []
+StepChecked path old new (Some v) (tree.There a) = Noted old new v (typed_phrase path a)
+StepChecked path old new v step = ⊥
 
 -- the range of a FOR, part by part
-pub record RangeChecked (path : Scopes) (old new : Checker) (r : Range) (a : tree.Phrase) (s : tree.Perhaps) (b : tree.Phrase) : Type 0 where
-  pub behind_start : Checker
-  pub behind_step : Checker
-  pub start : Noted old behind_start r.start (typed_phrase path a)
-  pub step : StepChecked path behind_start behind_step r.step s
-  pub limit : Noted behind_step new r.limit (typed_phrase path b)
+pub record RangeChecked (path : Scopes) (old new : Log) (r : Range) (a : tree.Phrase) (s : tree.Perhaps) (b : tree.Phrase) : Type 0 where
+  pub behind_start : Log
+  pub behind_step : Log
+  pub start : Noted old behind_start (view.verdict r.start) (typed_phrase path a)
+  pub step : StepChecked path behind_start behind_step (option_map view.verdict r.step) s
+  pub limit : Noted behind_step new (view.verdict r.limit) (typed_phrase path b)
 
-pub record PhrasesChecked (old new : Checker) (f : Phrases) (o : PhrasesOut) : Type 0 where
-  pub faults : new.faults.items ≡ old.faults.items ++ o.inside
-  pub found : AreTyped f o
+-- phrases, of which each gives this where it has a type
+pub record PhrasesChecked (old new : Log) (all : Option (List Gives)) (o : PhrasesOut) : Type 0 where
+  pub added : Adds old new o.inside (found_of_nodes o.nodes)
+  pub gives : AreGiven all o.gives
 
--- a statement of a CASE, and all of them
-pub record CaseChecked (old new : Checker) (before after : Cases) (o : Out) : Type 0 where
-  pub faults : new.faults.items ≡ old.faults.items ++ faults o
-  pub gives : given_view after.gives ≡ both_give (given_view before.gives) (gives o)
-  pub drafts : map part_view after.drafts.items ≡ map part_view before.drafts.items ++ o.node ∷ []
+-- the statements of a CASE, which give this together
+pub record CasesChecked (old new : Log) (all : Option Gives) (o : PhrasesOut) : Type 0 where
+  pub added : Adds old new o.inside (found_of_nodes o.nodes)
+  pub gives : all ≡ together o.gives
 
-pub record CasesChecked (old new : Checker) (f : Cases) (o : PhrasesOut) : Type 0 where
-  pub faults : new.faults.items ≡ old.faults.items ++ o.inside
-  pub found : AreFound f o
-
-pub record LinksChecked (old new : Checker) (f : Links) (o : LinksOut) : Type 0 where
-  pub faults : new.faults.items ≡ old.faults.items ++ o.inside
-  pub verdict : (links_view f).verdict ≡ o.verdict
-  pub links : (links_view f).links ≡ o.links
+pub record LinksChecked (old new : Log) (v : Verdict) (o : LinksOut) : Type 0 where
+  pub added : Adds old new o.inside (found_of_links o.links)
+  pub verdict : v ≡ o.verdict
 
 -- one of the lists behind a name
-pub record ListChecked (x : List ℕ) (old new : Checker) (before after : Lists) (o : ListOut) : Type 0 where
-  pub faults : new.faults.items ≡ old.faults.items ++ o.inside
-  pub front : front_view x after.front ≡ complete o.verdict
-  pub drafts : map list_view after.drafts.items ≡ map list_view before.drafts.items ++ o.listing ∷ []
+pub record ListChecked (old new : Log) (v : Verdict) (o : ListOut) : Type 0 where
+  pub added : Adds old new o.inside (found_of_lists (typed.list_and o.listing typed.no_lists))
+  pub verdict : v ≡ o.verdict
+
+-- a name with one list, of which the parts are read so
+pub record ApplicationChecked (old new : Log) (v : Verdict) (ps : List Part) (o : Out) : Type 0 where
+  pub checked : Checked old new v o
+  pub plain_parts : map plain ps ≡ parts_of_kind (typed.kind o.node)
+
+-- a phrase in a list, which is read so: what is inside it is added
+pub record GivenChecked (path : Scopes) (old new : Log) (g : Given) (w : Wanted) (a : tree.Phrase) : Type 0 where
+  pub added : Adds old new (typed_phrase path a).inside (found_of_kind (typed.kind (typed_phrase path a).node))
+  pub reads : Reads g (typed_phrase path a) (given path w a (typed_phrase path a))
 
 -- one part of a list, and all of them
-pub record ActualChecked (old new : Checker) (before after : Parts) (o : ActualOut) : Type 0 where
-  pub faults : new.faults.items ≡ old.faults.items ++ o.inside
-  pub parts : map part after.parts.items ≡ map part before.parts.items ++ o.part ∷ []
-  pub drafts : map actual_view after.drafts.items ≡ map actual_view before.drafts.items ++ o.actual ∷ []
+pub record ActualChecked (old new : Log) (p : Part) (o : ActualOut) : Type 0 where
+  pub added : Adds old new o.inside (found_of_actuals (typed.actual_and o.actual typed.no_actuals))
+  pub part : p ≡ o.part
 
-pub record PartsChecked (old new : Checker) (f : Parts) (o : PartsOut) : Type 0 where
-  pub faults : new.faults.items ≡ old.faults.items ++ o.inside
-  pub parts : (parts_view f).parts ≡ o.parts
-  pub actuals : (parts_view f).actuals ≡ o.actuals
+pub record PartsChecked (old new : Log) (ps : List Part) (o : PartsOut) : Type 0 where
+  pub added : Adds old new o.inside (found_of_actuals o.actuals)
+  pub parts : ps ≡ o.parts
 
 -- bounds, of one dimension and of all
-pub record BoundChecked (old new : Checker) (b : DraftBound) (p : Place) (lower upper : Out) : Type 0 where
-  pub faults : new.faults.items ≡ old.faults.items ++ faults lower ++ faults upper ++ fault_of (two_parts (gives lower) (gives upper) (bound_row p))
-  pub bound : bound_view b ≡ typed.Between p lower.node upper.node
+abbrev pub BoundChecked : Log → Log → Place → (lower upper : Out) → Type 0
+BoundChecked old new p lower upper = Adds old new (faults lower ++ faults upper ++ fault_of (two_parts (gives lower) (gives upper) (bound_row p))) (found_of lower.node ++ found_of upper.node)
 
-pub record BoundsChecked (old new : Checker) (bs : List DraftBound) (o : BoundsOut) : Type 0 where
-  pub faults : new.faults.items ≡ old.faults.items ++ o.inside
-  pub bounds : bounds_onto (map bound_view bs) typed.no_bounds ≡ o.bounds
+abbrev pub BoundsChecked : Log → Log → BoundsOut → Type 0
+BoundsChecked old new o = Adds old new o.inside (found_of_bounds o.bounds)
 
 -- declarations
-pub record DeclsChecked (old new : Checker) (ds : List DraftDecl) (o : DeclsOut) : Type 0 where
-  pub faults : new.faults.items ≡ old.faults.items ++ o.inside
-  pub decls : decls_view ds ≡ o.decls
+abbrev pub DeclsChecked : Log → Log → DeclsOut → Type 0
+DeclsChecked old new o = Adds old new o.inside (found_of_decls o.decls)
 
 -- the verdict of an item, which is the last or not, by what is found of its phrase
 abbrev pub end_of : (is_last is_labelled : Bool) → Place → Out → Verdict
 end_of is_last is_labelled first o = with_part (gives o) (item_row is_last is_labelled first)
 
--- the phrase of an item, found with the verdict of the item, whose fault is added too
-pub record EndChecked (old new : Checker) (t : Typed) (is_last is_labelled : Bool) (first : Place) (o : Out) : Type 0 where
-  pub faults : new.faults.items ≡ old.faults.items ++ faults o ++ fault_of (view.verdict t.verdict)
-  pub verdict : view.verdict t.verdict ≡ end_of is_last is_labelled first o
-  pub node : draft_view t.draft.now ≡ o.node
+-- the phrase of an item, and the verdict of the item, whose fault is added too
+pub record EndChecked (old new : Log) (v : Verdict) (is_last is_labelled : Bool) (first : Place) (o : Out) : Type 0 where
+  pub added : Adds old new (faults o ++ fault_of v) (found_of o.node)
+  pub verdict : v ≡ end_of is_last is_labelled first o
 
--- an item with a verdict, and all items
-pub record ItemFound (old new : Checker) (before after : Items) (labels : List Placed) (o : Out) (v : Verdict) : Type 0 where
-  pub faults : new.faults.items ≡ old.faults.items ++ faults o ++ fault_of v
-  pub verdict : view.verdict after.verdict ≡ then_item (view.verdict before.verdict) v
-  pub drafts : map item_view after.drafts.items ≡ map item_view before.drafts.items ++ typed.Labelled (declare_at labels) o.node ∷ []
+-- an item, and all items
+abbrev pub ItemChecked : Scopes → (is_last : Bool) → Log → Log → Verdict → tree.Item → Type 0
+ItemChecked path is_last old new v (tree.Labelled labels a) = EndChecked old new v is_last (has_labels labels) (first_token a) (typed_phrase path a)
 
-abbrev pub ItemChecked : Scopes → (is_last : Bool) → Checker → Checker → Items → Items → tree.Item → Type 0
-ItemChecked path is_last old new before after (tree.Labelled labels a) =
-    let o = typed_phrase path a in
-    ItemFound old new before after labels o (end_of is_last (has_labels labels) (first_token a) o)
-
-pub record ItemsChecked (old new : Checker) (f : Items) (o : ItemsOut) : Type 0 where
-  pub faults : new.faults.items ≡ old.faults.items ++ o.inside
-  pub verdict : (items_view f).verdict ≡ o.verdict
-  pub items : (items_view f).items ≡ o.items
+pub record ItemsChecked (old new : Log) (v : Verdict) (o : ItemsOut) : Type 0 where
+  pub added : Adds old new o.inside (found_of_items o.items)
+  pub verdict : v ≡ o.verdict

@@ -1,117 +1,132 @@
-ghost use Rattle.std.specs.Prelude as std;
-ghost use Rattle.std.specs.Prelude.{◌≡◌, ℕ, ◌∷◌, ◌++◌, IfOk, OnOk, map};
-ghost use Rattle.algolw_tree.specs.Grammar.{actuals_of, links_of, lists_of, phrases_of};
+ghost use Rattle.std.specs.Prelude.{◌≡◌, ◌∷◌, [], IfOk, OnOk, length, map};
+ghost use Rattle.std.specs.Option.{option_map};
+ghost use Rattle.algolw_tree.specs.Grammar.{links_of, phrases_of};
 ghost use Rattle.algolw_tree.specs.Tree as kinds;
-ghost use Rattle.algolw_tree.specs.View.{actual_tree, applied_tree, assignment_tree, link_tree, list_tree, optional_tree, part_tree, relation_tree, repetition_tree, tree};
+ghost use Rattle.algolw_tree.specs.View.{assignment_tree, link_tree, optional_tree, part_tree, relation_tree, repetition_tree, tree};
 ghost use Rattle.algolw_typing.specs.Scopes as scopes;
-ghost use Rattle.algolw_typing.specs.Typing.{typed_links, typed_parts, typed_phrase, typed_phrases};
-ghost use Rattle.algolw_typing.specs.Verdicts.{fault_of};
-ghost use Rattle.typing_rules.specs.MeaningView as meaning_view;
+ghost use Rattle.algolw_typing.specs.Typing.{typed_kind, typed_links, typed_phrase, typed_phrases};
+ghost use Rattle.algolw_typing.specs.Types.{Simple, Str};
+ghost use Rattle.algolw_typing.specs.Verdicts.{Good, fault_of};
 ghost use Rattle.typing_rules.specs.View as view;
-ghost use Rattle.phrase_checker.specs.Checked.{ActualChecked, CaseChecked, CasesChecked, Checked, LinksChecked, ListChecked, Noted, PairChecked, PartsChecked, PhrasesChecked, RangeChecked, StepChecked, kind_at};
-ghost use Rattle.typed_phrases.specs.FrontViews.{front_view};
+ghost use Rattle.typed_phrases.specs.FoundParts.{all_view, given_view};
 ghost use Rattle.typed_phrases.specs.Prefixes as prefixes;
-ghost use Rattle.typed_phrases.specs.Fronts.{actual_step, list_step};
+ghost use Rattle.phrase_checker.specs.Checked.{Adds, AssignmentChecked, CasesChecked, Checked, LinksChecked, Noted, PairChecked, PhrasesChecked, RangeChecked, StepChecked, ValueChecked, found_itself};
 
-use algolw_tree::{
-    Actual, Applied, Assignment, Kind, Link, List, ListKind, Part, Phrase, Relation, Repetition,
-    Spelling,
-};
+use algolw_tree::{Assignment, Kind, Link, Part, Phrase, Relation, Repetition, Spelling};
 use bumpalo::Bump;
 use declared_names::{KnownPath, class_fault};
 use std::alloc::{AllocError, Global};
-use typed_drafts::{DraftKind, DraftPart};
+use typed_findings::{Finding, Log};
 use typed_phrases::{
-    Cases, Front, Links, Lists, Parts, Phrases, Prefix, Range, Spot, Typed, applied, assigned,
-    case_do, case_value, chained, control_scope, empty, for_list, for_range, if_else, if_then,
-    is_class, jump, leaf, left_of, name_alone, named, noted, prefixed, quoted, read, relation,
-    while_do,
+    Phrases, Prefix, Range, assigned_verdict, both_give, case_do_verdict, case_value_verdict,
+    control_scope, for_list_verdict, given, if_else_verdict, if_verdict, is_verdict, left_of,
+    linked, noted, prefixed_verdict, range_verdict, relation_verdict, while_verdict,
 };
-use typing_rules::{ClassSet, NoType, PhraseType, Reading, ValueType, Verdict, Wanted};
-use value_ops::{Diagnostic, Place};
+use typing_rules::{ClassSet, NoType, PhraseType, ValueType, Verdict};
+use value_ops::Place;
 
 /// Checks the phrases of a program.
 #[derive(Drop)]
 pub(crate) struct Checker<'a> {
     pub(crate) alloc: Global,
     pub(crate) arena: &'a Bump,
-    /// The faults that were found, in the order of the rules.
-    pub(crate) faults: Vec<Diagnostic>,
+    /// What was found: the faults in the order of the rules.
+    pub(crate) log: Log<'a>,
+}
+
+/// What is found of an assignment, or of the value of one.
+#[derive(Clone, Copy)]
+pub(crate) struct Assigned<'a> {
+    /// Its type, or why it has none.
+    pub(crate) verdict: Verdict<'a>,
+    /// What the value at the right end of its assignments gives: where it is none itself, what it gives.
+    pub(crate) end: Option<PhraseType<'a>>,
 }
 
 impl<'a> Checker<'a> {
     /// Adds the fault of a verdict.
     pub(crate) fn note(&mut self, verdict: Verdict) -> Result<(), AllocError>
-        ensures { OnOk result (self.new.faults.items ≡ self.old.faults.items ++ fault_of (view.verdict verdict.entry)) }
+        ensures { OnOk result (Adds self.old.log self.new.log (fault_of (view.verdict verdict.entry)) []) }
     {
         if let Err(NoType::Fault(fault)) = verdict {
-            self.faults.push(fault)?;
+            self.log.faults.push(fault)?;
         }
         Ok(())
     }
 
-    /// Checks a phrase, and adds its faults.
+    /// Adds what is found of a phrase itself by its verdict: its fault, and what it gives, which isn't said of an empty one.
+    pub(crate) fn conclude(
+        &mut self,
+        phrase: &Phrase,
+        verdict: Verdict<'a>,
+    ) -> Result<(), AllocError>
+        ensures { OnOk result (Adds self.old.log self.new.log (fault_of (view.verdict verdict.entry))
+            (found_itself (tree phrase.now) (view.verdict verdict.entry))) }
+    {
+        self.note(verdict)?;
+        match phrase.kind {
+            Kind::Empty => Ok(()),
+            _ => self.log.add(Finding::of_phrase(phrase.first, verdict)),
+        }
+    }
+
+    /// Checks a phrase.
     #[cycle(phrases)]
     pub(crate) fn phrase<'t>(
         &mut self,
         path: &KnownPath<'_, 't, 'a>,
         phrase: &'t Phrase,
-    ) -> Result<Typed<'a>, AllocError>
-        ensures { IfOk result (λ t. Noted self.old self.new t (typed_phrase path.now (tree phrase.now))) }
+    ) -> Result<Verdict<'a>, AllocError>
+        ensures { IfOk result (λ v. Noted self.old.log self.new.log (view.verdict v)
+            (typed_phrase path.now (tree phrase.now))) }
     {
-        let typed = self.inside(path, phrase)?;
-        self.note(typed.verdict)?;
-        Ok(typed)
+        let verdict = self.inside(path, phrase)?;
+        self.conclude(phrase, verdict)?;
+        Ok(verdict)
     }
 
-    /// Checks a phrase, and adds the faults inside it.
+    /// Checks what is inside a phrase: the verdict of the phrase itself is still to be added.
     #[cycle(phrases)]
-    fn inside<'t>(
+    pub(crate) fn inside<'t>(
         &mut self,
         path: &KnownPath<'_, 't, 'a>,
         phrase: &'t Phrase,
-    ) -> Result<Typed<'a>, AllocError>
-        ensures { IfOk result (λ t. Checked self.old self.new t (typed_phrase path.now (tree phrase.now))) }
+    ) -> Result<Verdict<'a>, AllocError>
+        ensures { IfOk result (λ v. Checked self.old.log self.new.log (view.verdict v)
+            (typed_phrase path.now (tree phrase.now))) }
     {
-        let spot = Spot {
-            arena: self.arena,
-            place: phrase.place,
-            first: phrase.first,
-        };
+        let place = phrase.place;
         match &phrase.kind {
-            Kind::Empty => empty(spot),
-            Kind::Null => {
-                let to_none = ValueType::Reference(ClassSet::none());
-                leaf(spot, to_none, DraftKind::Null)
-            }
-            Kind::Number(number) => leaf(spot, ValueType::Integer, DraftKind::Number(*number)),
-            Kind::Truth(truth) => leaf(spot, ValueType::Logical, DraftKind::Truth(*truth)),
-            Kind::BitsLit(bits) => leaf(spot, ValueType::Bits, DraftKind::BitsLit(*bits)),
-            Kind::Negated(operand) => self.prefixed(path, spot, Prefix::Not, operand),
-            Kind::Abs(operand) => self.prefixed(path, spot, Prefix::Abs, operand),
+            Kind::Empty => Ok(Ok(PhraseType::Statement)),
+            Kind::Null => leaf(ValueType::Reference(ClassSet::none())),
+            Kind::Number(_) => leaf(ValueType::Integer),
+            Kind::Truth(_) => leaf(ValueType::Logical),
+            Kind::BitsLit(_) => leaf(ValueType::Bits),
+            Kind::Quoted(text) => quoted(text.as_slice()),
+            Kind::Negated(operand) => self.prefixed(path, place, Prefix::Not, operand),
+            Kind::Abs(operand) => self.prefixed(path, place, Prefix::Abs, operand),
             Kind::Signed(minus, operand) => {
-                self.prefixed(path, spot, Prefix::Sign(*minus), operand)
+                self.prefixed(path, place, Prefix::Sign(*minus), operand)
             }
-            Kind::Chain(chain) => self.chain(path, spot, &chain.first, &chain.links),
-            Kind::Relation(relation) => self.relation(path, spot, relation),
+            Kind::Assert(condition) => self.prefixed(path, place, Prefix::Assert, condition),
+            Kind::Chain(chain) => self.chain(path, &chain.first, &chain.links),
+            Kind::Relation(relation) => self.relation(path, place, relation),
             Kind::IfThen(choice) => self.conditional(
                 path,
-                spot,
+                place,
                 &choice.condition,
                 &choice.then,
                 &choice.otherwise,
             ),
-            Kind::CaseValue(case) => self.case_value(path, spot, &case.selector, &case.values),
-            Kind::CaseDo(case) => self.case_do(path, spot, &case.selector, &case.parts),
-            Kind::WhileDo(repetition) => self.while_do(path, spot, repetition),
-            Kind::Assert(condition) => self.prefixed(path, spot, Prefix::Assert, condition),
-            Kind::Quoted(text) => quoted(spot, text.as_slice()),
-            Kind::Goto(name) => jump(spot, path, name),
-            Kind::IsClass(test) => self.is_class(path, spot, &test.reference, &test.class),
-            Kind::Assign(assignment) => self.assign(path, spot, assignment),
+            Kind::CaseValue(case) => self.case_value(path, place, &case.selector, &case.values),
+            Kind::CaseDo(case) => self.case_do(path, place, &case.selector, &case.parts),
+            Kind::WhileDo(repetition) => self.while_do(path, place, repetition),
+            Kind::Goto(name) => self.jump(path, place, name),
+            Kind::IsClass(test) => self.is_class(path, place, &test.reference, &test.class),
+            Kind::Assign(assignment) => self.assign(path, place, assignment),
             Kind::ForStep(turns) => self.for_range(
                 path,
-                spot,
+                place,
                 &turns.name,
                 &turns.start,
                 &turns.step,
@@ -119,12 +134,12 @@ impl<'a> Checker<'a> {
                 &turns.body,
             ),
             Kind::ForList(turns) => {
-                self.for_list(path, spot, &turns.name, &turns.values, &turns.body)
+                self.for_list(path, place, &turns.name, &turns.values, &turns.body)
             }
-            Kind::Named(name) => name_alone(spot, path, &name.spelling()),
-            Kind::Applied(applied) => self.applied(path, spot, applied),
-            Kind::Listed(listed) => self.named(path, spot, &listed.name, &listed.lists),
-            Kind::Block(block) => self.block(path, spot, &block.decls, &block.items),
+            Kind::Named(name) => self.name_alone(path, place, &name.spelling()),
+            Kind::Applied(applied) => self.applied(path, place, applied),
+            Kind::Listed(listed) => self.named(path, place, &listed.name, &listed.lists),
+            Kind::Block(block) => self.block(path, &block.decls, &block.items),
         }
     }
 
@@ -135,9 +150,9 @@ impl<'a> Checker<'a> {
         path: &KnownPath<'_, 't, 'a>,
         first: &'t Phrase,
         second: &'t Phrase,
-    ) -> Result<(Typed<'a>, Typed<'a>), AllocError>
-        ensures { IfOk result (λ both.
-            PairChecked path.now self.old self.new both (tree first.now) (tree second.now)) }
+    ) -> Result<(Verdict<'a>, Verdict<'a>), AllocError>
+        ensures { IfOk result (λ both. PairChecked path.now self.old.log self.new.log
+            (view.verdict both.0) (view.verdict both.1) (tree first.now) (tree second.now)) }
     {
         let first = self.phrase(path, first)?;
         let second = self.phrase(path, second)?;
@@ -149,15 +164,15 @@ impl<'a> Checker<'a> {
     fn prefixed<'t>(
         &mut self,
         path: &KnownPath<'_, 't, 'a>,
-        spot: Spot<'a>,
+        place: Place,
         prefix: Prefix,
         operand: &'t Phrase,
-    ) -> Result<Typed<'a>, AllocError>
-        ensures { IfOk result (λ t. Checked self.old self.new t
-            (kind_at path.now spot.entry (prefixes.prefixed prefix (tree operand.now)))) }
+    ) -> Result<Verdict<'a>, AllocError>
+        ensures { (first : Place) → IfOk result (λ v. Checked self.old.log self.new.log (view.verdict v)
+            (typed_kind path.now place first (prefixes.prefixed prefix (tree operand.now)))) }
     {
         let operand = self.phrase(path, operand)?;
-        prefixed(spot, prefix, operand)
+        Ok(prefixed_verdict(place, prefix, operand))
     }
 
     /// Checks a comparison.
@@ -165,14 +180,14 @@ impl<'a> Checker<'a> {
     fn relation<'t>(
         &mut self,
         path: &KnownPath<'_, 't, 'a>,
-        spot: Spot<'a>,
+        place: Place,
         comparison: &'t Relation,
-    ) -> Result<Typed<'a>, AllocError>
-        ensures { IfOk result (λ t. Checked self.old self.new t
-            (kind_at path.now spot.entry (relation_tree comparison.now))) }
+    ) -> Result<Verdict<'a>, AllocError>
+        ensures { (first : Place) → IfOk result (λ v. Checked self.old.log self.new.log (view.verdict v)
+            (typed_kind path.now place first (relation_tree comparison.now))) }
     {
         let (left, right) = self.pair(path, &comparison.left, &comparison.right)?;
-        relation(spot, comparison.op, left, right)
+        Ok(relation_verdict(place, comparison.op, left, right))
     }
 
     /// Checks a WHILE.
@@ -180,14 +195,14 @@ impl<'a> Checker<'a> {
     fn while_do<'t>(
         &mut self,
         path: &KnownPath<'_, 't, 'a>,
-        spot: Spot<'a>,
+        place: Place,
         repetition: &'t Repetition,
-    ) -> Result<Typed<'a>, AllocError>
-        ensures { IfOk result (λ t. Checked self.old self.new t
-            (kind_at path.now spot.entry (repetition_tree repetition.now))) }
+    ) -> Result<Verdict<'a>, AllocError>
+        ensures { (first : Place) → IfOk result (λ v. Checked self.old.log self.new.log (view.verdict v)
+            (typed_kind path.now place first (repetition_tree repetition.now))) }
     {
         let (condition, body) = self.pair(path, &repetition.condition, &repetition.body)?;
-        while_do(spot, condition, body)
+        Ok(while_verdict(place, condition, body))
     }
 
     /// Checks an IF.
@@ -195,19 +210,20 @@ impl<'a> Checker<'a> {
     fn conditional<'t>(
         &mut self,
         path: &KnownPath<'_, 't, 'a>,
-        spot: Spot<'a>,
+        place: Place,
         condition: &'t Phrase,
         then: &'t Phrase,
         otherwise: &'t Option<Box<Phrase>>,
-    ) -> Result<Typed<'a>, AllocError>
-        ensures { IfOk result (λ t. Checked self.old self.new t
-            (kind_at path.now spot.entry (kinds.IfThen (tree condition.now) (tree then.now) (optional_tree otherwise.now)))) }
+    ) -> Result<Verdict<'a>, AllocError>
+        ensures { (first : Place) → IfOk result (λ v. Checked self.old.log self.new.log (view.verdict v)
+            (typed_kind path.now place first (kinds.IfThen (tree condition.now) (tree then.now) (optional_tree otherwise.now)))) }
     {
         let (condition, then) = self.pair(path, condition, then)?;
-        match otherwise {
-            None => if_then(spot, condition, then),
-            Some(otherwise) => if_else(spot, condition, then, self.phrase(path, otherwise)?),
-        }
+        let Some(otherwise) = otherwise else {
+            return Ok(if_verdict(place, condition, then));
+        };
+        let otherwise = self.phrase(path, otherwise)?;
+        if_else_verdict(self.arena, place, condition, then, otherwise)
     }
 
     /// Checks a chain.
@@ -215,16 +231,14 @@ impl<'a> Checker<'a> {
     fn chain<'t>(
         &mut self,
         path: &KnownPath<'_, 't, 'a>,
-        spot: Spot<'a>,
         first: &'t Phrase,
         links: &'t [Link],
-    ) -> Result<Typed<'a>, AllocError>
-        ensures { IfOk result (λ t. Checked self.old self.new t
-            (kind_at path.now spot.entry (kinds.Chain (tree first.now) (links_of (map link_tree links.now))))) }
+    ) -> Result<Verdict<'a>, AllocError>
+        ensures { (place token : Place) → IfOk result (λ v. Checked self.old.log self.new.log (view.verdict v)
+            (typed_kind path.now place token (kinds.Chain (tree first.now) (links_of (map link_tree links.now))))) }
     {
         let first = self.phrase(path, first)?;
-        let links = self.links(path, noted(first.verdict), links)?;
-        chained(spot, first, links)
+        self.links(path, noted(first), links)
     }
 
     /// Checks the links of a chain, behind a front with this verdict.
@@ -234,16 +248,16 @@ impl<'a> Checker<'a> {
         path: &KnownPath<'_, 't, 'a>,
         front: Verdict<'a>,
         links: &'t [Link],
-    ) -> Result<Links<'a>, AllocError>
-        ensures { IfOk result (λ found. LinksChecked self.old self.new found
+    ) -> Result<Verdict<'a>, AllocError>
+        ensures { IfOk result (λ v. LinksChecked self.old.log self.new.log (view.verdict v)
             (typed_links path.now (view.verdict front.entry) (links_of (map link_tree links.now)))) }
     {
-        let mut found = Links::with_capacity(self.arena, front, links.len())?;
+        let mut front = front;
         for link in links {
             let right = self.phrase(path, &link.right)?;
-            found.add(link.op, link.place, right)?;
+            front = linked(link.op, link.place, front, right);
         }
-        Ok(found)
+        Ok(front)
     }
 
     /// Checks a CASE between values.
@@ -251,16 +265,16 @@ impl<'a> Checker<'a> {
     fn case_value<'t>(
         &mut self,
         path: &KnownPath<'_, 't, 'a>,
-        spot: Spot<'a>,
+        place: Place,
         subject: &'t Phrase,
         values: &'t [Phrase],
-    ) -> Result<Typed<'a>, AllocError>
-        ensures { IfOk result (λ t. Checked self.old self.new t
-            (kind_at path.now spot.entry (kinds.CaseValue (tree subject.now) (phrases_of (map tree values.now))))) }
+    ) -> Result<Verdict<'a>, AllocError>
+        ensures { (first : Place) → IfOk result (λ v. Checked self.old.log self.new.log (view.verdict v)
+            (typed_kind path.now place first (kinds.CaseValue (tree subject.now) (phrases_of (map tree values.now))))) }
     {
         let subject = self.phrase(path, subject)?;
         let values = self.phrases(path, values)?;
-        case_value(spot, subject, values)
+        case_value_verdict(self.arena, place, subject, &values)
     }
 
     /// Checks a CASE between statements.
@@ -268,33 +282,34 @@ impl<'a> Checker<'a> {
     fn case_do<'t>(
         &mut self,
         path: &KnownPath<'_, 't, 'a>,
-        spot: Spot<'a>,
+        place: Place,
         subject: &'t Phrase,
         parts: &'t [Part],
-    ) -> Result<Typed<'a>, AllocError>
-        ensures { IfOk result (λ t. Checked self.old self.new t
-            (kind_at path.now spot.entry (kinds.CaseDo (tree subject.now) (phrases_of (map part_tree parts.now))))) }
+    ) -> Result<Verdict<'a>, AllocError>
+        ensures { (first : Place) → IfOk result (λ v. Checked self.old.log self.new.log (view.verdict v)
+            (typed_kind path.now place first (kinds.CaseDo (tree subject.now) (phrases_of (map part_tree parts.now))))) }
     {
         let subject = self.phrase(path, subject)?;
-        let cases = self.cases(path, parts)?;
-        case_do(spot, subject, cases)
+        let gives = self.cases(path, parts)?;
+        Ok(case_do_verdict(place, subject, gives))
     }
 
-    /// Checks the statements of a CASE.
+    /// Checks the statements of a CASE, and finds what they give together.
     #[cycle(phrases)]
     fn cases<'t>(
         &mut self,
         path: &KnownPath<'_, 't, 'a>,
         parts: &'t [Part],
-    ) -> Result<Cases<'a>, AllocError>
-        ensures { IfOk result (λ found. CasesChecked self.old self.new found
+    ) -> Result<Option<PhraseType<'a>>, AllocError>
+        ensures { IfOk result (λ gives. CasesChecked self.old.log self.new.log (given_view gives)
             (typed_phrases path.now (phrases_of (map part_tree parts.now)))) }
     {
-        let mut found = Cases::with_capacity(self.arena, parts.len())?;
+        let mut gives = Some(PhraseType::Statement);
         for part in parts {
-            self.case(path, part, &mut found)?;
+            let statement = self.case(path, part)?;
+            gives = both_give(gives, statement);
         }
-        Ok(found)
+        Ok(gives)
     }
 
     /// Checks a statement of a CASE.
@@ -303,17 +318,13 @@ impl<'a> Checker<'a> {
         &mut self,
         path: &KnownPath<'_, 't, 'a>,
         part: &'t Part,
-        found: &mut Cases<'a>,
-    ) -> Result<(), AllocError>
-        ensures { OnOk result (CaseChecked self.old self.new found.old found.new
+    ) -> Result<Verdict<'a>, AllocError>
+        ensures { IfOk result (λ v. Noted self.old.log self.new.log (view.verdict v)
             (typed_phrase path.now (part_tree part.now))) }
     {
         match part {
-            Part::Empty(place) => found.add(DraftPart::Empty(*place), Ok(PhraseType::Statement)),
-            Part::Phrase(phrase) => {
-                let typed = self.phrase(path, phrase)?;
-                found.add(DraftPart::Phrase(typed.draft), typed.verdict)
-            }
+            Part::Empty(_) => Ok(Ok(PhraseType::Statement)),
+            Part::Phrase(phrase) => self.phrase(path, phrase),
         }
     }
 
@@ -324,13 +335,13 @@ impl<'a> Checker<'a> {
         path: &KnownPath<'_, 't, 'a>,
         phrases: &'t [Phrase],
     ) -> Result<Phrases<'a>, AllocError>
-        ensures { IfOk result (λ found. PhrasesChecked self.old self.new found
+        ensures { IfOk result (λ found. PhrasesChecked self.old.log self.new.log (all_view found.gives)
             (typed_phrases path.now (phrases_of (map tree phrases.now)))) }
     {
-        let mut found = Phrases::with_capacity(self.alloc, self.arena, phrases.len())?;
+        let mut found = Phrases::with_capacity(self.alloc, phrases.len())?;
         for phrase in phrases {
-            let typed = self.phrase(path, phrase)?;
-            found.add(typed)?;
+            let verdict = self.phrase(path, phrase)?;
+            found.add(verdict)?;
         }
         Ok(found)
     }
@@ -340,16 +351,17 @@ impl<'a> Checker<'a> {
     fn is_class<'t>(
         &mut self,
         path: &KnownPath<'_, 't, 'a>,
-        spot: Spot<'a>,
+        place: Place,
         operand: &'t Phrase,
         class: &(Spelling, Place),
-    ) -> Result<Typed<'a>, AllocError>
-        ensures { IfOk result (λ t. Checked self.old self.new t
-            (kind_at path.now spot.entry (kinds.IsClass (tree operand.now) class.now.0 class.now.1))) }
+    ) -> Result<Verdict<'a>, AllocError>
+        ensures { (first : Place) → IfOk result (λ v. Checked self.old.log self.new.log (view.verdict v)
+            (typed_kind path.now place first (kinds.IsClass (tree operand.now) class.now.0 class.now.1))) }
     {
         let operand = self.phrase(path, operand)?;
-        class_fault(path, class, &mut self.faults)?;
-        is_class(spot, path, operand, class)
+        class_fault(path, class, &mut self.log.faults)?;
+        let target = self.target(path, &class.0)?;
+        Ok(is_verdict(place, target, operand))
     }
 
     /// Checks an assignment.
@@ -357,15 +369,55 @@ impl<'a> Checker<'a> {
     fn assign<'t>(
         &mut self,
         path: &KnownPath<'_, 't, 'a>,
-        spot: Spot<'a>,
+        place: Place,
         assignment: &'t Assignment,
-    ) -> Result<Typed<'a>, AllocError>
-        ensures { IfOk result (λ t. Checked self.old self.new t
-            (kind_at path.now spot.entry (assignment_tree assignment.now))) }
+    ) -> Result<Verdict<'a>, AllocError>
+        ensures { (first : Place) → IfOk result (λ v. Checked self.old.log self.new.log (view.verdict v)
+            (typed_kind path.now place first (assignment_tree assignment.now))) }
+    {
+        let found = self.assignment(path, place, assignment)?;
+        Ok(found.verdict)
+    }
+
+    /// Checks an assignment, and finds what the value at its right end gives.
+    #[cycle(phrases)]
+    fn assignment<'t>(
+        &mut self,
+        path: &KnownPath<'_, 't, 'a>,
+        place: Place,
+        assignment: &'t Assignment,
+    ) -> Result<Assigned<'a>, AllocError>
+        ensures { (first : Place) → IfOk result (λ a. AssignmentChecked self.old.log self.new.log
+            (view.verdict a.verdict) (given_view a.end)
+            (typed_kind path.now place first (assignment_tree assignment.now))) }
     {
         let left = left_of(path, &assignment.target);
-        let (target, value) = self.pair(path, &assignment.target, &assignment.value)?;
-        assigned(spot, left, target, value)
+        let target = self.phrase(path, &assignment.target)?;
+        let value = self.value(path, &assignment.value)?;
+        let end = value.end;
+        let verdict = assigned_verdict(place, left, target, value.verdict, end);
+        Ok(Assigned { verdict, end })
+    }
+
+    /// Checks the value of an assignment, which isn't counted where it is an assignment itself.
+    #[cycle(phrases)]
+    fn value<'t>(
+        &mut self,
+        path: &KnownPath<'_, 't, 'a>,
+        phrase: &'t Phrase,
+    ) -> Result<Assigned<'a>, AllocError>
+        ensures { IfOk result (λ a. ValueChecked self.old.log self.new.log
+            (view.verdict a.verdict) (given_view a.end) (typed_phrase path.now (tree phrase.now))) }
+    {
+        let Kind::Assign(assignment) = &phrase.kind else {
+            let verdict = self.phrase(path, phrase)?;
+            let end = given(verdict);
+            return Ok(Assigned { verdict, end });
+        };
+        let found = self.assignment(path, phrase.place, assignment)?;
+        self.note(found.verdict)?;
+        self.log.add(Finding::uncounted(found.verdict))?;
+        Ok(found)
     }
 
     /// Checks the body of a FOR at a place.
@@ -376,8 +428,8 @@ impl<'a> Checker<'a> {
         place: Place,
         name: &'t Spelling,
         body: &'t Phrase,
-    ) -> Result<Typed<'a>, AllocError>
-        ensures { IfOk result (λ t. Noted self.old self.new t
+    ) -> Result<Verdict<'a>, AllocError>
+        ensures { IfOk result (λ v. Noted self.old.log self.new.log (view.verdict v)
             (typed_phrase (scopes.control_scope place name.now ∷ path.now) (tree body.now))) }
     {
         let scope = control_scope(self.alloc, name, place)?;
@@ -389,19 +441,19 @@ impl<'a> Checker<'a> {
     fn for_range<'t>(
         &mut self,
         path: &KnownPath<'_, 't, 'a>,
-        spot: Spot<'a>,
+        place: Place,
         name: &'t Spelling,
         start: &'t Phrase,
         step: &'t Option<Box<Phrase>>,
         limit: &'t Phrase,
         body: &'t Phrase,
-    ) -> Result<Typed<'a>, AllocError>
-        ensures { IfOk result (λ t. Checked self.old self.new t
-            (kind_at path.now spot.entry (kinds.ForStep name.now (tree start.now) (optional_tree step.now) (tree limit.now) (tree body.now)))) }
+    ) -> Result<Verdict<'a>, AllocError>
+        ensures { (first : Place) → IfOk result (λ v. Checked self.old.log self.new.log (view.verdict v)
+            (typed_kind path.now place first (kinds.ForStep name.now (tree start.now) (optional_tree step.now) (tree limit.now) (tree body.now)))) }
     {
         let range = self.range(path, start, step, limit)?;
-        let body = self.controlled(path, spot.place, name, body)?;
-        for_range(spot, range, body)
+        let body = self.controlled(path, place, name, body)?;
+        Ok(range_verdict(place, range, body))
     }
 
     /// Checks the range of a FOR.
@@ -413,7 +465,7 @@ impl<'a> Checker<'a> {
         step: &'t Option<Box<Phrase>>,
         limit: &'t Phrase,
     ) -> Result<Range<'a>, AllocError>
-        ensures { IfOk result (λ r. RangeChecked path.now self.old self.new r
+        ensures { IfOk result (λ r. RangeChecked path.now self.old.log self.new.log r
             (tree start.now) (optional_tree step.now) (tree limit.now)) }
     {
         let start = self.phrase(path, start)?;
@@ -428,8 +480,9 @@ impl<'a> Checker<'a> {
         &mut self,
         path: &KnownPath<'_, 't, 'a>,
         step: &'t Option<Box<Phrase>>,
-    ) -> Result<Option<Typed<'a>>, AllocError>
-        ensures { IfOk result (λ t. StepChecked path.now self.old self.new t (optional_tree step.now)) }
+    ) -> Result<Option<Verdict<'a>>, AllocError>
+        ensures { IfOk result (λ v. StepChecked path.now self.old.log self.new.log
+            (option_map view.verdict v) (optional_tree step.now)) }
     {
         match step {
             None => Ok(None),
@@ -442,123 +495,33 @@ impl<'a> Checker<'a> {
     fn for_list<'t>(
         &mut self,
         path: &KnownPath<'_, 't, 'a>,
-        spot: Spot<'a>,
+        place: Place,
         name: &'t Spelling,
         values: &'t [Phrase],
         body: &'t Phrase,
-    ) -> Result<Typed<'a>, AllocError>
-        ensures { IfOk result (λ t. Checked self.old self.new t
-            (kind_at path.now spot.entry (kinds.ForList name.now (phrases_of (map tree values.now)) (tree body.now)))) }
+    ) -> Result<Verdict<'a>, AllocError>
+        ensures { (first : Place) → IfOk result (λ v. Checked self.old.log self.new.log (view.verdict v)
+            (typed_kind path.now place first (kinds.ForList name.now (phrases_of (map tree values.now)) (tree body.now)))) }
     {
         let values = self.phrases(path, values)?;
-        let body = self.controlled(path, spot.place, name, body)?;
-        for_list(spot, values, body)
+        let body = self.controlled(path, place, name, body)?;
+        Ok(for_list_verdict(place, &values, body))
     }
+}
 
-    /// Checks a name and the lists behind it.
-    #[cycle(phrases)]
-    fn named<'t>(
-        &mut self,
-        path: &KnownPath<'_, 't, 'a>,
-        spot: Spot<'a>,
-        name: &Spelling,
-        lists: &'t [List],
-    ) -> Result<Typed<'a>, AllocError>
-        ensures { IfOk result (λ t. Checked self.old self.new t
-            (kind_at path.now spot.entry (kinds.Named name.now (lists_of (map list_tree lists.now))))) }
-    {
-        let target = path.declared(name);
-        let front = Front::Name(spot.place, target);
-        let mut found = Lists::with_capacity(self.arena, front, lists.len())?;
-        for list in lists {
-            self.list(path, list, &mut found)?;
-        }
-        named(spot, target, found)
-    }
+/// The verdict of a phrase without parts.
+fn leaf<'a>(value_type: ValueType<'a>) -> Result<Verdict<'a>, AllocError>
+    ensures { IfOk result (λ v. view.verdict v ≡ Good (Simple (view.value_type value_type.entry))) }
+{
+    Ok(Ok(PhraseType::Value(value_type)))
+}
 
-    /// Checks a name and the one list of actuals behind it.
-    #[cycle(phrases)]
-    fn applied<'t>(
-        &mut self,
-        path: &KnownPath<'_, 't, 'a>,
-        spot: Spot<'a>,
-        application: &'t Applied,
-    ) -> Result<Typed<'a>, AllocError>
-        ensures { IfOk result (λ t. Checked self.old self.new t
-            (kind_at path.now spot.entry (applied_tree application.now))) }
-    {
-        let target = path.declared(&application.name.spelling());
-        let front = Front::Name(spot.place, target);
-        let parts = self.parts(path, front.reading(), &application.actuals)?;
-        applied(spot, target, application.place, parts)
-    }
-
-    /// Checks one of the lists behind a name.
-    #[cycle(phrases)]
-    fn list<'t>(
-        &mut self,
-        path: &KnownPath<'_, 't, 'a>,
-        list: &'t List,
-        found: &mut Lists<'a>,
-    ) -> Result<(), AllocError>
-        ensures { (x : std.List ℕ) → OnOk result (ListChecked x self.old self.new found.old found.new
-            (list_step path.now (front_view x found.old.front) (list_tree list.now))) }
-    {
-        match &list.kind {
-            ListKind::Actuals(actuals) => {
-                let parts = self.parts(path, found.front.reading(), actuals)?;
-                found.add_list(self.arena, list.place, parts)?;
-                Ok(())
-            }
-            ListKind::Part(start, length) => {
-                let start = self.phrase(path, start)?;
-                found.add_part(list.place, start, *length)?;
-                Ok(())
-            }
-        }
-    }
-
-    /// Checks the parts of a list, which are read so.
-    #[cycle(phrases)]
-    fn parts<'t>(
-        &mut self,
-        path: &KnownPath<'_, 't, 'a>,
-        reading: Reading<'a>,
-        actuals: &'t [Actual],
-    ) -> Result<Parts<'a>, AllocError>
-        ensures { IfOk result (λ found. PartsChecked self.old self.new found
-            (typed_parts path.now (meaning_view.reading reading.entry) (actuals_of (map actual_tree actuals.now)))) }
-    {
-        let mut reading = reading;
-        let mut found = Parts::with_capacity(self.alloc, self.arena, actuals.len())?;
-        for actual in actuals {
-            self.actual(path, reading.wanted(), actual, &mut found)?;
-            reading = reading.behind();
-        }
-        Ok(found)
-    }
-
-    /// Checks a part of a list, of which this is wanted.
-    #[cycle(phrases)]
-    fn actual<'t>(
-        &mut self,
-        path: &KnownPath<'_, 't, 'a>,
-        wanted: Wanted<'a>,
-        actual: &'t Actual,
-        found: &mut Parts<'a>,
-    ) -> Result<(), AllocError>
-        ensures { OnOk result (ActualChecked self.old self.new found.old found.new
-            (actual_step path.now (meaning_view.wanted wanted.entry) (actual_tree actual.now))) }
-    {
-        match actual {
-            Actual::Star(place) => found.add_star(*place),
-            Actual::Phrase(phrase) => {
-                let typed = self.inside(path, phrase)?;
-                let given = read(self.alloc, self.arena, path, wanted, phrase, typed)?;
-                self.note(given.verdict)?;
-                found.add(given.part, given.draft)?;
-                Ok(())
-            }
-        }
-    }
+/// The verdict of a string that is written out.
+fn quoted<'a>(text: &[u8]) -> Result<Verdict<'a>, AllocError>
+    ensures { IfOk result (λ v. view.verdict v ≡ Good (Simple (Str (length text.now)))) }
+{
+    let Ok(length) = u32::try_from(text.len()) else {
+        return Err(AllocError);
+    };
+    leaf(ValueType::Str(length))
 }

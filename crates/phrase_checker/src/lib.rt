@@ -1,8 +1,9 @@
-//! What is found of every phrase of a program: its typed tree, and its faults in the order of the rules.
+//! What is found of every phrase of a program, in the order in which it is gone through, and its faults in the order of the rules.
 #![tactic(auto)]
 
 mod blocks;
 mod checker;
+mod names;
 mod program;
 
-pub use program::{FoundProgram, check_program};
+pub use program::check_program;

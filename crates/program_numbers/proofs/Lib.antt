@@ -7,3 +7,11 @@ pub mod NodeMaking
 pub mod ProcedureParts
 pub mod KnownTrees
 pub mod ProgramMaking
+pub mod TakenParts
+pub mod TakenBack
+pub mod PlacesAlike
+pub mod StatementsFound
+pub mod ProgramTaken
+pub mod RowsTaken
+pub mod RowKinds
+pub mod TakenMaking

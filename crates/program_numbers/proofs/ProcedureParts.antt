@@ -1,4 +1,4 @@
--- The parts of a procedure, as a draft and in memory, and of a phrase behind its labels.
+-- The parts of a procedure in memory, and of a phrase behind its labels.
 use Rattle.std.proofs.Common.{◌≡◌, ℕ, Option, map, refl}
 use Rattle.std.specs.Option.{option_map}
 use Rattle.std.specs.declared.vec.Vec.{Vec}
@@ -13,13 +13,6 @@ use Rattle.algolw_tree.specs.declared.programs.TypedProc.{roll-TypedProc}
 use Rattle.algolw_typing.specs.ProgramView as program
 use Rattle.algolw_typing.specs.ProgramView.{Numbers}
 use Rattle.algolw_typing.specs.Typed as typed
-use Rattle.typing_rules.specs.View.{value_type}
-use Rattle.typed_drafts.specs.declared.drafts.DraftProc.{DraftProc, DraftProc', out-DraftProc}
-use Rattle.typed_drafts.specs.DraftView.{draft_view, formal_view, place_view, procedure_view}
-
-pub procedure_at : (p : DraftProc) → procedure_view p ≡ typed.Proc (out-DraftProc p).place (option_map value_type (out-DraftProc p).result) (place_view (out-DraftProc p).name) (map formal_view (out-DraftProc p).formals.now) (draft_view (out-DraftProc p).body.now)
-unfolding out-DraftProc denote.Hole.Carrier.out
-procedure_at (DraftProc' place result name formals q at first kind gives) = refl
 
 pub procedure_in : (ns : Numbers) (place : Place) (t : Option SimpleType) (m : ℕ × Place) (fs : Vec TypedFormal Global) (x : Box Node Global)
     → program.procedure_view ns (roll-TypedProc (record { place = place; result = t; name = m; formals = fs; body = x })) ≡ typed.Proc place (option_map (program.type_view ns) t) (program.target_view ns m) (map (program.formal_view ns) fs.items) (program.node_view ns x.value)

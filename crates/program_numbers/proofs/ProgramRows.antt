@@ -18,7 +18,7 @@ use Rattle.algolw_tree.specs.declared.programs.TypedDecl.{TypedDecl, Array, Row_
 use Rattle.algolw_tree.specs.declared.programs.NodeKind.TheBlock.{hidden-the_row-TypedList-0, items_hidden-the_row-TypedList-0, hidden-the_row-TypedLink-1, items_hidden-the_row-TypedLink-1, hidden-the_row-Node-2, items_hidden-the_row-Node-2, hidden-the_row-TypedPart-3, items_hidden-the_row-TypedPart-3, hidden-the_row-TypedDecl-4, items_hidden-the_row-TypedDecl-4, hidden-the_row-TypedItem-5, items_hidden-the_row-TypedItem-5, hidden-the_row-TypedBound-6, items_hidden-the_row-TypedBound-6, hidden-the_row-TypedActual-7, items_hidden-the_row-TypedActual-7}
 use Rattle.algolw_typing.specs.Typed as typed
 use Rattle.algolw_typing.specs.ProgramView.{Numbers, numbered, node_view, at_view, kind_view, nodes_view, links_view, lists_view, listing_view, actuals_view, actual_view, parts_view, part_view, items_view, item_view, decls_view, decl_view, bounds_view, targets_view, type_view}
-use Rattle.typed_drafts.specs.Onto.{nodes_onto, links_onto, lists_onto, actuals_onto, items_onto, decls_onto, bounds_onto}
+use Rattle.program_numbers.specs.Onto.{nodes_onto, links_onto, lists_onto, actuals_onto, items_onto, decls_onto, bounds_onto}
 use Rattle.program_numbers.specs.ProgramParts.{perhaps_in, link_in, list_in, bound_in}
 
 module _ (ns : Numbers) where

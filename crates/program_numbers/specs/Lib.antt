@@ -2,4 +2,6 @@ pub mod Held
 pub mod HoldsClasses
 pub mod Makes
 pub mod Numbered
+pub mod Onto
 pub mod ProgramParts
+pub mod Taken

@@ -7,6 +7,7 @@ use Rattle.record_classes.specs.Classes.{Classes}
 use Rattle.algolw_typing.specs.Typed as typed
 use Rattle.algolw_typing.specs.ProgramView.{Numbers, numbered}
 use Rattle.typing_rules.specs.ClassSets.{Rising}
+use Rattle.typed_findings.specs.Findings.{Found}
 use Rattle.program_numbers.specs.declared.numbering.Numbering.{Numbering}
 
 abbrev pub Sets : Type 0
@@ -44,3 +45,8 @@ pub record Makes {A : Type 0} (n : Numbering) (old new : Classes) (view : Number
   pub follows : Follows old.sets new.sets
   pub sets : AreSets n.classes old.sets → AreSets n.classes new.sets
   pub means : (later : Sets) → Follows new.sets later → AreSets n.classes later → view (numbers_in n later) ≡ x
+
+-- What is made is what findings say of a phrase or of its parts, and the findings behind them are left.
+pub record MakesTaken {A : Type 0} (n : Numbering) (old new : Classes) (view : Numbers → A) (behind : List Found) (taken : A × List Found) : Type 0 where
+  pub made : Makes n old new view taken.0
+  pub left : behind ≡ taken.1

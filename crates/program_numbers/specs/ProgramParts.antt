@@ -1,14 +1,17 @@
--- The parts of a program in memory as the typed tree has them.
-use Rattle.std.specs.Prelude.{ℕ, Option, Some, None}
+-- The parts of a program in memory as the typed tree has them, and fields of a type as the tree has them.
+use Rattle.std.specs.Prelude.{ℕ, List, Option, Some, None}
 use Rattle.std.specs.declared.boxed.Box.{Box}
 use Rattle.std.specs.declared.vec.Vec.{Vec}
 use Rattle.std.specs.declared.alloc.Global.{Global}
 use Rattle.value_ops.specs.declared.places.Place.{Place}
 use Rattle.value_ops.specs.declared.values.SimpleType.{SimpleType}
+use Rattle.algolw_tree.specs.declared.phrases.TypeSpec.{TypeSpec}
 use Rattle.algolw_tree.specs.declared.programs.Node.{Node}
 use Rattle.algolw_tree.specs.declared.programs.TypedLink.{TypedLink}
 use Rattle.algolw_tree.specs.declared.programs.TypedList.{TypedList}
 use Rattle.algolw_tree.specs.declared.programs.TypedBound.{TypedBound}
+use Rattle.algolw_tree.specs.Tree as tree
+use Rattle.algolw_tree.specs.View.{spec_tree}
 use Rattle.algolw_typing.specs.Typed as typed
 use Rattle.algolw_typing.specs.ProgramView.{Numbers, node_view, listing_view, type_view, targets_view}
 
@@ -28,3 +31,6 @@ bound_in ns b = typed.Between b.place (node_view ns b.lower) (node_view ns b.upp
 
 abbrev pub group_in : Numbers → SimpleType × Vec (ℕ × Place) Global → typed.Group
 group_in ns g = record { type = type_view ns g.0; names = targets_view ns g.1.items }
+
+abbrev pub group_tree : TypeSpec × Vec (List ℕ × Place) Global → tree.TypeSpec × List tree.Placed
+group_tree g = (spec_tree g.0, g.1.items)

@@ -3,19 +3,19 @@ ghost use Rattle.std.specs.Option.{option_map};
 ghost use Rattle.algolw_typing.specs.Known.{AllHad, KnowsType, KnowsResult, KnowsGives, KnowsDeclared};
 ghost use Rattle.algolw_typing.specs.ProgramView.{numbered, set_view, type_view, gives_view};
 ghost use Rattle.algolw_typing.specs.Types.{has};
+ghost use Rattle.algolw_typing.specs.Typing.{declare_at};
 ghost use Rattle.record_classes.specs.Classes.{set_of};
-ghost use Rattle.typed_drafts.specs.DraftView as drafts;
-ghost use Rattle.typed_drafts.specs.DraftView.{placed_view};
+ghost use Rattle.typed_findings.specs.Findings.{finding_view, statement_of};
 ghost use Rattle.typing_rules.specs.ClassSets.{Rising};
-ghost use Rattle.typing_rules.specs.View.{value_type};
+ghost use Rattle.typing_rules.specs.View.{phrase_type, value_type};
 ghost use Rattle.program_numbers.specs.Makes.{Makes, HasMembers, places_in, target_in};
 ghost use Rattle.program_numbers.specs.Numbered.{StatementNumbered};
 
 use crate::place_numbers::PlaceNumbers;
 use crate::table_builder::TableBuilder;
-use algolw_tree::{Gives, Literal, Targets};
+use algolw_tree::{Gives, Literal, Spelling, Targets};
 use std::alloc::{AllocError, Global};
-use typed_drafts::DraftGives;
+use typed_findings::Finding;
 use typing_rules::{PhraseType, ValueType};
 use value_ops::{ClassId, Place, SetId, SimpleType};
 
@@ -49,25 +49,25 @@ impl Numbering {
         statements.into_places()
     }
 
-    /// What is declared, each by its number.
-    pub fn targets(&self, places: &[Place]) -> Result<Targets, AllocError>
-        requires { KnowsDeclared self.now.names (placed_view places.now) }
-        ensures { IfOk result (λ targets. map (target_in self.now) targets.items ≡ placed_view places.now) }
+    /// The names that are declared, each by its number.
+    pub fn targets(&self, names: &[(Spelling, Place)]) -> Result<Targets, AllocError>
+        requires { KnowsDeclared self.now.names (declare_at names.now) }
+        ensures { IfOk result (λ targets. map (target_in self.now) targets.items ≡ declare_at names.now) }
     {
         let mut targets = Vec::new(self.alloc);
-        for place in places {
-            targets.push((self.names.number(*place), *place))?;
+        for name in names {
+            targets.push((self.names.number(name.1), name.1))?;
         }
         Ok(targets)
     }
 
-    /// The number of a phrase with this first token, where it is a statement that is counted.
-    pub fn statement(&self, first: Place, gives: DraftGives) -> Option<u32>
-        requires { StatementNumbered self.now (drafts.counted_view first gives) }
-        ensures { option_map (numbered self.now.statements) result ≡ drafts.counted_view first gives.entry }
+    /// The number of a phrase of which this was found, where it is a statement that is counted.
+    pub fn statement(&self, own: Finding) -> Option<u32>
+        requires { StatementNumbered self.now (statement_of (finding_view own)) }
+        ensures { option_map (numbered self.now.statements) result ≡ statement_of (finding_view own.entry) }
     {
-        match gives {
-            DraftGives::Counted => Some(self.statements.number(first)),
+        match own {
+            Finding::Counted(first) => Some(self.statements.number(first)),
             _ => None,
         }
     }
@@ -196,13 +196,13 @@ impl Numbering {
     pub fn gives(
         &self,
         table: &mut TableBuilder,
-        gives: DraftGives,
+        gives: Option<PhraseType>,
     ) -> Result<Option<Gives>, AllocError>
-        requires { KnowsGives self.now.classes (drafts.gives_view gives) }
+        requires { KnowsGives self.now.classes (option_map phrase_type gives) }
         ensures { IfOk result (λ made. Makes self.now table.old table.new (λ ns. option_map (gives_view ns) made)
-            (drafts.gives_view gives.entry)) }
+            (option_map phrase_type gives.entry)) }
     {
-        match gives.phrase_type() {
+        match gives {
             Some(PhraseType::Value(of)) => Ok(Some(Gives::Simple(self.simple_type(table, of)?))),
             Some(PhraseType::Statement) => Ok(Some(Gives::Statement)),
             None => Ok(None),

@@ -1,16 +1,18 @@
 ghost use Rattle.std.specs.Prelude.{◌≡◌, IfOk, OnOk, map};
+ghost use Rattle.algolw_tree.specs.View.{tree};
+ghost use Rattle.algolw_typing.specs.Faults.{typed_program};
 ghost use Rattle.algolw_typing.specs.Known.{AllHad, Knows, ClassesKnow};
 ghost use Rattle.algolw_typing.specs.ProgramView.{HoldsProgram};
 ghost use Rattle.algolw_typing.specs.Programs.{by_place, statements};
-ghost use Rattle.typed_drafts.specs.DraftView.{draft_view};
 ghost use Rattle.block_scopes.specs.ClassView.{class_view};
+ghost use Rattle.typed_findings.specs.Findings.{counted_places, finding_view, found_of};
 
 use crate::numbering::Numbering;
 use crate::place_numbers::PlaceNumbers;
-use algolw_tree::{NameInfo, Program};
+use algolw_tree::{NameInfo, Phrase, Program};
 use block_scopes::FoundClass;
 use std::alloc::{AllocError, Global};
-use typed_drafts::{Draft, statements};
+use typed_findings::{Finding, Untaken, statements};
 use value_ops::Place;
 
 /// Puts places in order.
@@ -43,30 +45,31 @@ fn class_places(alloc: Global, classes: &[FoundClass]) -> Result<Vec<Place>, All
     Ok(places)
 }
 
-/// The places of the statements of a program, in order.
-fn statement_places(alloc: Global, draft: &Draft) -> Result<Vec<Place>, AllocError>
-    ensures { IfOk result (λ places. places.items ≡ by_place (λ place. place) (statements (draft_view draft.now))) }
+/// The places of the statements of a program of which this is found, in order.
+fn statement_places(alloc: Global, findings: &[Finding]) -> Result<Vec<Place>, AllocError>
+    ensures { IfOk result (λ places. places.items
+        ≡ by_place (λ place. place) (counted_places (map finding_view findings.now))) }
 {
-    let mut places = statements(alloc, draft)?;
+    let mut places = statements(alloc, findings)?;
     sort_places(&mut places)?;
     Ok(places)
 }
 
-/// The numbers of the names, the record classes and the statements of a program.
+/// The numbers of the names, the record classes and the statements of a program of which this is found.
 fn program_numbering(
     alloc: Global,
-    draft: &Draft,
+    findings: &[Finding],
     names: &[NameInfo],
     classes: &[FoundClass],
 ) -> Result<Numbering, AllocError>
     ensures names { IfOk result (λ n. n.names ≡ map (λ info. info.place) names.now) }
     ensures classes { IfOk result (λ n. n.classes ≡ map (λ class. class.place) (map class_view classes.now)) }
     ensures statements { IfOk result (λ n. n.statements
-        ≡ by_place (λ place. place) (statements (draft_view draft.now))) }
+        ≡ by_place (λ place. place) (counted_places (map finding_view findings.now))) }
 {
     let names = PlaceNumbers::new(name_places(alloc, names)?)?;
     let classes = PlaceNumbers::new(class_places(alloc, classes)?)?;
-    let statements = PlaceNumbers::new(statement_places(alloc, draft)?)?;
+    let statements = PlaceNumbers::new(statement_places(alloc, findings)?)?;
     Ok(Numbering {
         alloc,
         names,
@@ -75,31 +78,34 @@ fn program_numbering(
     })
 }
 
-/// The program in memory that a typed tree is, with these names and these record classes.
+/// The program in memory that a phrase is of which this is found, with these names and these record classes.
 pub fn number_program<'a>(
     alloc: Global,
-    draft: &Draft<'a>,
+    phrase: &Phrase,
+    findings: &[Finding<'a>],
     names: Vec<NameInfo>,
     classes: &[FoundClass<'a>],
 ) -> Result<Program, AllocError>
+    requires found { map finding_view findings.now ≡ found_of (typed_program (tree phrase.now)).node }
     requires known { Knows (map (λ info. info.place) names.items)
-        (map (λ class. class.place) (map class_view classes.now)) (draft_view draft.now) }
+        (map (λ class. class.place) (map class_view classes.now)) (typed_program (tree phrase.now)).node }
     requires fields { ClassesKnow (map (λ class. class.place) (map class_view classes.now))
         (map class_view classes.now) }
     requires named { AllHad (map (λ info. info.place) names.items)
         (map (λ class. class.place) (map class_view classes.now)) }
     ensures { IfOk result (λ program. HoldsProgram program
         (record {
-          root = draft_view draft.now;
+          root = (typed_program (tree phrase.now)).node;
           names = names.items;
           classes = map class_view classes.now;
           statements =
-              by_place (λ place. place) (statements (draft_view draft.now));
+              by_place (λ place. place) (statements (typed_program (tree phrase.now)).node);
         })) }
 {
-    let numbering = program_numbering(alloc, draft, &names, classes)?;
+    let numbering = program_numbering(alloc, findings, &names, classes)?;
     let mut table = numbering.class_table(classes)?;
-    let root = numbering.node(&mut table, draft)?;
+    let mut found = Untaken::new(findings);
+    let root = numbering.node(&mut table, phrase, &mut found)?;
     let class_names = numbering.class_names(classes)?;
     Ok(Program {
         root,

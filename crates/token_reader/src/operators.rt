@@ -1,4 +1,4 @@
-ghost use Rattle.std.specs.Prelude.{◌≡◌, IfOk};
+ghost use Rattle.std.specs.Prelude.{◌≡◌};
 ghost use Rattle.algolw_tree.specs.Grammar.{op_at};
 ghost use Rattle.algolw_tree.specs.View.{tree};
 ghost use Rattle.algolw_grammar.specs.Kinds.{opens};
@@ -7,10 +7,11 @@ ghost use Rattle.algolw_grammar.specs.Reading.{comparing, read_word, read_symbol
 ghost use Rattle.token_reader.specs.Gives.{Gives};
 ghost use Rattle.token_reader.specs.Levels.{operators, read_operator};
 
+use crate::make::at;
 use crate::parser::Parser;
 use crate::stop::Stop;
-use algolw_tree::{Kind, Op, Phrase, RelOp, Spelling, Symbol, TokenKind, Word};
-use std::alloc::AllocError;
+use algolw_tree::{Kind, Op, Phrase, RelOp, Symbol, TokenKind, Word};
+use kept_tokens::TokenSort;
 use value_ops::Place;
 
 /// A level of operators that are chained, from those that bind least on.
@@ -35,17 +36,20 @@ impl Parser<'_> {
     {
         match self.rest {
             [token, ..] => match level {
-                Level::Or => matches!(token.kind, TokenKind::Word(Word::Or)),
-                Level::And => matches!(token.kind, TokenKind::Word(Word::And)),
-                Level::Sum => matches!(token.kind, TokenKind::Symbol(Symbol::Plus | Symbol::Minus)),
+                Level::Or => matches!(token.sort(), TokenSort::Word(Word::Or)),
+                Level::And => matches!(token.sort(), TokenSort::Word(Word::And)),
+                Level::Sum => matches!(
+                    token.sort(),
+                    TokenSort::Symbol(Symbol::Plus | Symbol::Minus)
+                ),
                 Level::Term => matches!(
-                    token.kind,
-                    TokenKind::Symbol(Symbol::Star | Symbol::Slash)
-                        | TokenKind::Word(Word::Div | Word::Rem)
+                    token.sort(),
+                    TokenSort::Symbol(Symbol::Star | Symbol::Slash)
+                        | TokenSort::Word(Word::Div | Word::Rem)
                 ),
                 Level::Shift => matches!(
-                    token.kind,
-                    TokenKind::Word(Word::Shl | Word::Shr) | TokenKind::Symbol(Symbol::Power)
+                    token.sort(),
+                    TokenSort::Word(Word::Shl | Word::Shr) | TokenSort::Symbol(Symbol::Power)
                 ),
             },
             [] => false,
@@ -97,8 +101,8 @@ impl Parser<'_> {
     {
         match self.rest {
             [token, ..] => matches!(
-                token.kind,
-                TokenKind::Symbol(
+                token.sort(),
+                TokenSort::Symbol(
                     Symbol::Equal
                         | Symbol::NotEqual
                         | Symbol::Less
@@ -119,24 +123,17 @@ impl Parser<'_> {
         let [token, rest @ ..] = self.rest else {
             return Err(self.unexpected());
         };
-        let op = match token.kind {
-            TokenKind::Symbol(Symbol::Equal) => RelOp::Equal,
-            TokenKind::Symbol(Symbol::NotEqual) => RelOp::NotEqual,
-            TokenKind::Symbol(Symbol::Less) => RelOp::Less,
-            TokenKind::Symbol(Symbol::LessEqual) => RelOp::LessEqual,
-            TokenKind::Symbol(Symbol::Greater) => RelOp::Greater,
-            TokenKind::Symbol(Symbol::GreaterEqual) => RelOp::GreaterEqual,
+        let op = match token.sort() {
+            TokenSort::Symbol(Symbol::Equal) => RelOp::Equal,
+            TokenSort::Symbol(Symbol::NotEqual) => RelOp::NotEqual,
+            TokenSort::Symbol(Symbol::Less) => RelOp::Less,
+            TokenSort::Symbol(Symbol::LessEqual) => RelOp::LessEqual,
+            TokenSort::Symbol(Symbol::Greater) => RelOp::Greater,
+            TokenSort::Symbol(Symbol::GreaterEqual) => RelOp::GreaterEqual,
             _ => return Err(self.unexpected()),
         };
         self.rest = rest;
-        Ok((op, token.place))
-    }
-
-    /// A string once more, in a box.
-    fn copied(&self, text: &Spelling) -> Result<Box<Spelling>, AllocError>
-        ensures { IfOk result (λ copy. copy.value ≡ text.now) }
-    {
-        Ok(Box::new(self.alloc, text.copied(self.alloc)?)?)
+        Ok((op, token.place()))
     }
 
     /// A value that is written out.
@@ -147,20 +144,16 @@ impl Parser<'_> {
         let [token, rest @ ..] = self.rest else {
             return Err(self.unexpected());
         };
-        let kind = match &token.kind {
-            TokenKind::Number(number) => Kind::Number(*number),
-            TokenKind::BitsLit(bits) => Kind::BitsLit(*bits),
-            TokenKind::Quoted(text) => Kind::Quoted(self.copied(text)?),
+        let kind = match token.kind(self.alloc)? {
+            TokenKind::Number(number) => Kind::Number(number),
+            TokenKind::BitsLit(bits) => Kind::BitsLit(bits),
+            TokenKind::Quoted(text) => Kind::Quoted(Box::new(self.alloc, text)?),
             TokenKind::Word(Word::True) => Kind::Truth(true),
             TokenKind::Word(Word::False) => Kind::Truth(false),
             TokenKind::Word(Word::Null) => Kind::Null,
             _ => return Err(self.unexpected()),
         };
         self.rest = rest;
-        Ok(Phrase {
-            place: token.place,
-            first: token.place,
-            kind,
-        })
+        Ok(at(token.place(), kind))
     }
 }

@@ -12,7 +12,8 @@ ghost use Rattle.token_reader.specs.Gives.{Gives, Fails, boxed_tree, place_at, l
 
 use crate::make;
 use crate::stop::Stop;
-use algolw_tree::{Names, Phrase, Spelling, Symbol, Token, TokenKind, Word};
+use algolw_tree::{Names, Phrase, Spelling, Symbol, TokenKind, Word};
+use kept_tokens::{KeptToken, TokenSort};
 use std::alloc::{AllocError, Global};
 use value_ops::Place;
 
@@ -22,25 +23,25 @@ pub struct Parser<'a> {
     /// Where the tree is made.
     pub alloc: Global,
     /// The tokens that are left.
-    pub rest: &'a [Token],
+    pub rest: &'a [KeptToken],
 }
 
 /// Whether a token is this word.
-fn is_word(kind: &TokenKind, word: Word) -> bool
-    ensures { result ≡ is_word word kind.now }
+fn is_word(token: &KeptToken, word: Word) -> bool
+    ensures { result ≡ is_word word token.now.kind }
 {
-    match kind {
-        TokenKind::Word(found) => *found == word,
+    match token.sort() {
+        TokenSort::Word(found) => found == word,
         _ => false,
     }
 }
 
 /// Whether a token is this symbol.
-fn is_symbol(kind: &TokenKind, symbol: Symbol) -> bool
-    ensures { result ≡ is_symbol symbol kind.now }
+fn is_symbol(token: &KeptToken, symbol: Symbol) -> bool
+    ensures { result ≡ is_symbol symbol token.now.kind }
 {
-    match kind {
-        TokenKind::Symbol(found) => *found == symbol,
+    match token.sort() {
+        TokenSort::Symbol(found) => found == symbol,
         _ => false,
     }
 }
@@ -73,7 +74,7 @@ impl Parser<'_> {
         ensures { result ≡ opens (the_word word) self.now.rest.now }
     {
         match self.rest {
-            [token, ..] => is_word(&token.kind, word),
+            [token, ..] => is_word(token, word),
             [] => false,
         }
     }
@@ -83,7 +84,7 @@ impl Parser<'_> {
         ensures { result ≡ opens (the_symbol symbol) self.now.rest.now }
     {
         match self.rest {
-            [token, ..] => is_symbol(&token.kind, symbol),
+            [token, ..] => is_symbol(token, symbol),
             [] => false,
         }
     }
@@ -93,7 +94,7 @@ impl Parser<'_> {
         ensures { result ≡ opens a_name self.now.rest.now }
     {
         match self.rest {
-            [token, ..] => matches!(token.kind, TokenKind::Named(_)),
+            [token, ..] => matches!(token.sort(), TokenSort::Named),
             [] => false,
         }
     }
@@ -103,17 +104,17 @@ impl Parser<'_> {
         ensures { result ≡ opens first_phrase self.now.rest.now }
     {
         match self.rest {
-            [token, ..] => match token.kind {
-                TokenKind::Word(word) => opens_phrase(word),
-                TokenKind::Symbol(symbol) => matches!(
+            [token, ..] => match token.sort() {
+                TokenSort::Word(word) => opens_phrase(word),
+                TokenSort::Symbol(symbol) => matches!(
                     symbol,
                     Symbol::Not | Symbol::Plus | Symbol::Minus | Symbol::Open
                 ),
-                TokenKind::Named(_)
-                | TokenKind::Number(_)
-                | TokenKind::BitsLit(_)
-                | TokenKind::Quoted(_) => true,
-                TokenKind::Finish => false,
+                TokenSort::Named
+                | TokenSort::Number(_)
+                | TokenSort::BitsLit(_)
+                | TokenSort::Quoted => true,
+                TokenSort::Finish => false,
             },
             [] => false,
         }
@@ -124,7 +125,7 @@ impl Parser<'_> {
         ensures { result ≡ is_else (follow self.now.rest.now None) }
     {
         match self.rest {
-            [token, ..] => matches!(token.kind, TokenKind::Word(Word::Else)),
+            [token, ..] => matches!(token.sort(), TokenSort::Word(Word::Else)),
             [] => false,
         }
     }
@@ -134,7 +135,7 @@ impl Parser<'_> {
         ensures { result ≡ opens first_goto self.now.rest.now }
     {
         match self.rest {
-            [token, ..] => matches!(token.kind, TokenKind::Word(Word::Goto | Word::Go)),
+            [token, ..] => matches!(token.sort(), TokenSort::Word(Word::Goto | Word::Go)),
             [] => false,
         }
     }
@@ -145,8 +146,8 @@ impl Parser<'_> {
     {
         match self.rest {
             [token, ..] => matches!(
-                token.kind,
-                TokenKind::Symbol(Symbol::Comma) | TokenKind::Word(Word::Do)
+                token.sort(),
+                TokenSort::Symbol(Symbol::Comma) | TokenSort::Word(Word::Do)
             ),
             [] => false,
         }
@@ -158,8 +159,8 @@ impl Parser<'_> {
     {
         match self.rest {
             [token, ..] => matches!(
-                token.kind,
-                TokenKind::Word(
+                token.sort(),
+                TokenSort::Word(
                     Word::Procedure
                         | Word::Record
                         | Word::Integer
@@ -178,7 +179,7 @@ impl Parser<'_> {
         ensures { result ≡ place_at self.now.rest.now }
     {
         match self.rest {
-            [token, ..] => token.place,
+            [token, ..] => token.place(),
             [] => Place { card: 0, column: 0 },
         }
     }
@@ -213,9 +214,9 @@ impl Parser<'_> {
         ensures { Gives (λ x. x) result self.new.rest.now (read_word word self.old.rest.now) }
     {
         match self.rest {
-            [token, rest @ ..] if is_word(&token.kind, word) => {
+            [token, rest @ ..] if is_word(token, word) => {
                 self.rest = rest;
-                Ok(token.place)
+                Ok(token.place())
             }
             _ => Err(self.unexpected()),
         }
@@ -226,9 +227,9 @@ impl Parser<'_> {
         ensures { Gives (λ x. x) result self.new.rest.now (read_symbol symbol self.old.rest.now) }
     {
         match self.rest {
-            [token, rest @ ..] if is_symbol(&token.kind, symbol) => {
+            [token, rest @ ..] if is_symbol(token, symbol) => {
                 self.rest = rest;
-                Ok(token.place)
+                Ok(token.place())
             }
             _ => Err(self.unexpected()),
         }
@@ -238,16 +239,13 @@ impl Parser<'_> {
     pub fn expect_finish(&mut self) -> Result<Place, Stop>
         ensures { Gives (λ x. x) result self.new.rest.now (read_token finish_taken self.old.rest.now) }
     {
-        match self.rest {
-            [
-                Token {
-                    kind: TokenKind::Finish,
-                    place,
-                },
-                rest @ ..,
-            ] => {
+        let [token, rest @ ..] = self.rest else {
+            return Err(self.unexpected());
+        };
+        match token.sort() {
+            TokenSort::Finish => {
                 self.rest = rest;
-                Ok(*place)
+                Ok(token.place())
             }
             _ => Err(self.unexpected()),
         }
@@ -257,17 +255,13 @@ impl Parser<'_> {
     pub fn expect_name(&mut self) -> Result<(Spelling, Place), Stop>
         ensures { Gives (λ x. x) result self.new.rest.now (read_name self.old.rest.now) }
     {
-        match self.rest {
-            [
-                Token {
-                    kind: TokenKind::Named(name),
-                    place,
-                },
-                rest @ ..,
-            ] => {
-                let name = name.copied(self.alloc)?;
+        let [token, rest @ ..] = self.rest else {
+            return Err(self.unexpected());
+        };
+        match token.kind(self.alloc)? {
+            TokenKind::Named(name) => {
                 self.rest = rest;
-                Ok((name, *place))
+                Ok((name, token.place()))
             }
             _ => Err(self.unexpected()),
         }
@@ -277,16 +271,13 @@ impl Parser<'_> {
     pub fn expect_number(&mut self) -> Result<(i32, Place), Stop>
         ensures { Gives (λ x. x) result self.new.rest.now (read_number self.old.rest.now) }
     {
-        match self.rest {
-            [
-                Token {
-                    kind: TokenKind::Number(number),
-                    place,
-                },
-                rest @ ..,
-            ] => {
+        let [token, rest @ ..] = self.rest else {
+            return Err(self.unexpected());
+        };
+        match token.sort() {
+            TokenSort::Number(number) => {
                 self.rest = rest;
-                Ok((*number, *place))
+                Ok((number, token.place()))
             }
             _ => Err(self.unexpected()),
         }
@@ -297,7 +288,7 @@ impl Parser<'_> {
         ensures { Gives empty_tree result self.now.rest.now (read_empty empty_at self.now.rest.now) }
     {
         match self.rest {
-            [token, ..] => Ok(token.place),
+            [token, ..] => Ok(token.place()),
             [] => Err(self.unexpected()),
         }
     }
@@ -324,8 +315,8 @@ impl Parser<'_> {
         ensures { result ≡ is_some (label_at self.now.rest.now) }
     {
         match self.rest {
-            [name, colon, ..] => matches!(name.kind, TokenKind::Named(_))
-                && is_symbol(&colon.kind, Symbol::Colon),
+            [name, colon, ..] => matches!(name.sort(), TokenSort::Named)
+                && is_symbol(colon, Symbol::Colon),
             _ => false,
         }
     }
@@ -370,16 +361,16 @@ pub fn inside(room: u32) -> Option<u32>
 /// The label that a name and a colon are.
 fn label_of(
     alloc: Global,
-    name: &Token,
-    colon: &Token,
+    name: &KeptToken,
+    colon: &KeptToken,
 ) -> Result<Option<(Spelling, Place)>, AllocError>
     ensures { IfOk result (λ label. label ≡ label_taken name.now colon.now) }
 {
-    match &name.kind {
-        TokenKind::Named(label) if is_symbol(&colon.kind, Symbol::Colon) => {
-            let label = label.copied(alloc)?;
-            Ok(Some((label, name.place)))
-        }
+    if !is_symbol(colon, Symbol::Colon) {
+        return Ok(None);
+    }
+    match name.kind(alloc)? {
+        TokenKind::Named(label) => Ok(Some((label, name.place()))),
         _ => Ok(None),
     }
 }

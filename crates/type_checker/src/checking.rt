@@ -1,9 +1,9 @@
-ghost use Rattle.std.specs.Prelude.{◌≡◌, [], IfOk, take};
+ghost use Rattle.std.specs.Prelude.{◌≡◌, [], IfOk, map, take};
 ghost use Rattle.algolw_tree.specs.View.{tree};
 ghost use Rattle.algolw_typing.specs.Faults.{in_order, program_faults, typed_program};
 ghost use Rattle.algolw_typing.specs.Programs.{program_of};
 ghost use Rattle.algolw_typing.specs.ProgramView.{HoldsProgram};
-ghost use Rattle.typed_drafts.specs.DraftView.{draft_view};
+ghost use Rattle.typed_findings.specs.Findings.{finding_view, found_of};
 ghost use Rattle.type_checker.specs.Says.{Says};
 
 use algolw_tree::{Phrase, Program};
@@ -12,7 +12,7 @@ use bumpalo::Bump;
 use phrase_checker::check_program;
 use program_numbers::number_program;
 use std::alloc::{AllocError, Global};
-use typed_drafts::Draft;
+use typed_findings::Finding;
 use value_ops::Diagnostic;
 
 /// How many diagnostics of a program are given.
@@ -27,35 +27,34 @@ pub enum Checked {
     Bad(Vec<Diagnostic>),
 }
 
-/// Checks the names and types of a program.
-pub fn check(alloc: Global, phrase: Phrase) -> Result<Checked, AllocError>
+/// Checks the names and types of a program. There is room for so many findings from the first on: a row that grows would leave
+/// holes as large as itself.
+pub fn check(alloc: Global, phrase: Phrase, room: usize) -> Result<Checked, AllocError>
     ensures { IfOk result (λ checked. Says (tree phrase) checked) }
 {
     let arena = Bump::new(alloc);
-    let found = check_program(alloc, &arena, &phrase)?;
+    let found = check_program(alloc, &arena, &phrase, room)?;
     if found.faults.is_empty() {
-        let program = good_program(alloc, &arena, phrase, found.draft)?;
+        let program = good_program(alloc, &arena, &phrase, &found.findings)?;
         return Ok(Checked::Good(program));
     }
     let given = given_diagnostics(found.faults)?;
     Ok(Checked::Bad(given))
 }
 
-/// The program that a phrase without faults is. The phrase is gone before the program is made, so that a long deck takes less
-/// memory.
+/// The program that a phrase without faults is, of whose parts this is found.
 fn good_program<'a>(
     alloc: Global,
     arena: &'a Bump,
-    phrase: Phrase,
-    draft: &Draft<'a>,
+    phrase: &Phrase,
+    findings: &[Finding<'a>],
 ) -> Result<Program, AllocError>
-    requires faults { program_faults (tree phrase) ≡ [] }
-    requires draft { draft_view draft.now ≡ (typed_program (tree phrase)).node }
-    ensures { IfOk result (λ program. HoldsProgram program (program_of (tree phrase))) }
+    requires faults { program_faults (tree phrase.now) ≡ [] }
+    requires found { map finding_view findings.now ≡ found_of (typed_program (tree phrase.now)).node }
+    ensures { IfOk result (λ program. HoldsProgram program (program_of (tree phrase.now))) }
 {
-    let scopes = resolve(alloc, arena, &phrase)?;
-    drop(phrase);
-    number_program(alloc, draft, scopes.names, &scopes.classes)
+    let scopes = resolve(alloc, arena, phrase)?;
+    number_program(alloc, phrase, findings, scopes.names, &scopes.classes)
 }
 
 /// The diagnostics that are given of all that are found: the first twenty, in order.

@@ -1,6 +1,6 @@
 pub mod AllParts
+pub mod Applying
 pub mod Defaults
-pub mod Founds
 pub mod InLists
-pub mod Made
+pub mod Readings
 pub mod Together

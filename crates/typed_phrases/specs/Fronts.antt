@@ -1,5 +1,5 @@
 -- What stands before a list, and what a list makes of it.
-use Rattle.std.specs.Prelude.{ℤ, Bool, true, false, List, [], ◌∷◌, ◌++◌, Option}
+use Rattle.std.specs.Prelude.{ℤ, List, [], ◌∷◌, ◌++◌, Option}
 use Rattle.value_ops.specs.declared.places.Place.{Place}
 use Rattle.value_ops.specs.declared.places.Diagnostic.{Diagnostic}
 use Rattle.algolw_tree.specs.Tree as tree
@@ -8,7 +8,7 @@ use Rattle.algolw_typing.specs.Meanings.{Part, a_star, base_row, part_row}
 use Rattle.algolw_typing.specs.Names.{Entry}
 use Rattle.algolw_typing.specs.Scopes.{Known, Scopes, written}
 use Rattle.algolw_typing.specs.Typed as typed
-use Rattle.algolw_typing.specs.Typing.{faults, gives, onward, ListsOut, PartsOut, reading_of, use_of, use_alone, use_with_list, list_verdict, given, part_of_node, parts_of_actuals, typed_phrase, typed_parts, first_list, more_lists}
+use Rattle.algolw_typing.specs.Typing.{faults, gives, onward, ListsOut, PartsOut, reading_of, use_of, use_alone, use_with_list, list_verdict, given, typed_phrase, typed_parts, first_list, more_lists}
 use Rattle.algolw_typing.specs.Types.{Gives}
 use Rattle.algolw_typing.specs.Verdicts.{Verdict, part}
 
@@ -78,18 +78,3 @@ actual_step path w (tree.Given a) =
 
 abbrev pub actual_then : ActualOut → PartsOut → PartsOut
 actual_then a more = record { inside = a.inside ++ more.inside; parts = a.part ∷ more.parts; actuals = typed.actual_and a.actual more.actuals }
-
--- what a part is read as, by what it gives as a phrase
-abbrev pub part_of_actual : typed.Actual → Part
-part_of_actual (typed.Star q) = a_star
-part_of_actual (typed.Given n) = part_of_node n
-
--- what the parts of a list are read as, which a substring list has none of
-abbrev pub parts_of_listing : typed.Listing → List Part
-parts_of_listing (typed.OfActuals q actuals) = parts_of_actuals actuals
-parts_of_listing (typed.OfPart q a n) = []
-
--- a list that is no substring list
-abbrev pub of_actuals : tree.Listing → Bool
-of_actuals (tree.OfActuals q _) = true
-of_actuals (tree.OfPart q a n) = false

@@ -1,8 +1,8 @@
+pub mod Applications
 pub mod Cases
-pub mod Found
 pub mod FoundParts
 pub mod Fronts
 pub mod FrontViews
-pub mod Items
 pub mod Ranges
+pub mod Readings
 pub mod Prefixes

@@ -1,191 +1,174 @@
-ghost use Rattle.std.specs.Prelude.{◌≡◌, ◌∷◌, [], ◌++◌, IfOk, OnOk, map};
+ghost use Rattle.std.specs.Prelude.{◌≡◌, false, IfOk, map};
 ghost use Rattle.std.specs.Option.{option_map};
 ghost use Rattle.algolw_tree.specs.Tree.{At};
-ghost use Rattle.algolw_tree.specs.View.{list_tree, listed_tree, tree};
-ghost use Rattle.algolw_typing.specs.Meanings as meanings;
-ghost use Rattle.algolw_typing.specs.Typed as typed;
+ghost use Rattle.algolw_tree.specs.View.{applied_tree, kind_tree, listed_tree, tree};
+ghost use Rattle.algolw_typing.specs.Actuals.{phrase_part};
 ghost use Rattle.algolw_typing.specs.Typing as rules;
-ghost use Rattle.typing_rules.specs.View as types;
+ghost use Rattle.algolw_typing.specs.Typing.{typed_phrase};
+ghost use Rattle.algolw_typing.specs.Verdicts.{type_of};
 ghost use Rattle.typing_rules.specs.MeaningView as view;
-ghost use Rattle.typed_drafts.specs.DraftView.{actual_view, draft_view, kind_view};
-ghost use Rattle.typed_phrases.specs.Found.{found_view};
-ghost use Rattle.typed_drafts.specs.DraftParts.{list_view};
-ghost use Rattle.typed_drafts.specs.Onto.{lists_onto};
-ghost use Rattle.typed_phrases.specs.Fronts.{of_actuals, part_of_actual, parts_of_listing};
-ghost use Rattle.typed_phrases.specs.FrontViews.{given_out};
+ghost use Rattle.typing_rules.specs.View as types;
+ghost use Rattle.typed_phrases.specs.Applications.{Applies, IsApplication, is_application};
+ghost use Rattle.typed_phrases.specs.Readings.{ListReads, NameReads, Reads, plain, without_type};
 
-use crate::making::{Typed, given};
-use algolw_tree::{Kind, List, ListKind, Listed, Phrase};
-use bumpalo::Bump;
-use declared_names::{KnownPath, meaning_of};
+use crate::operators::given;
+use algolw_tree::{Actual, Applied, Kind, ListKind, Listed, Phrase};
+use declared_names::{Known, KnownPath, meaning_of};
 use std::alloc::{AllocError, Global};
-use typed_drafts::{Draft, DraftActual, DraftGives, DraftKind, DraftList, DraftListKind};
 use typing_rules::{
     Meaning, NoType, Part, ValueType, Verdict, Wanted, phrase_part, subarray_part, subarray_row,
 };
 use value_ops::Place;
 
+/// A name with one list behind it, which is no substring list.
+#[derive(Clone, Copy)]
+pub struct Application<'t, 'a> {
+    /// What is known of the name.
+    pub target: Option<Known<'a>>,
+    /// The place of the list's opening parenthesis.
+    pub place: Place,
+    /// The subscripts, fields or actuals.
+    pub actuals: &'t [Actual],
+}
+
+impl<'t, 'a> Application<'t, 'a> {
+    /// A short name with its list.
+    pub fn short(path: &KnownPath<'_, '_, 'a>, applied: &'t Applied) -> Application<'t, 'a>
+        ensures { Applies path.now (applied_tree applied.now) result }
+    {
+        Application {
+            target: path.declared(&applied.name.spelling()),
+            place: applied.place,
+            actuals: applied.actuals.as_slice(),
+        }
+    }
+
+    /// Any other name with its list, where it has one alone, which is no substring list.
+    fn other(path: &KnownPath<'_, '_, 'a>, listed: &'t Listed) -> Option<Application<'t, 'a>>
+        ensures { IsApplication path.now (listed_tree listed.now) result }
+    {
+        let [list] = listed.lists.as_slice() else {
+            return None;
+        };
+        let ListKind::Actuals(actuals) = &list.kind else {
+            return None;
+        };
+        Some(Application {
+            target: path.declared(&listed.name),
+            place: list.place,
+            actuals: actuals.as_slice(),
+        })
+    }
+
+    /// What a phrase is, where it is a name with one such list.
+    pub fn of(path: &KnownPath<'_, '_, 'a>, phrase: &'t Phrase) -> Option<Application<'t, 'a>>
+        ensures { IsApplication path.now (kind_tree phrase.now.kind) result }
+    {
+        match &phrase.kind {
+            Kind::Applied(applied) => Some(Application::short(path, applied)),
+            Kind::Listed(listed) => Application::other(path, listed),
+            _ => None,
+        }
+    }
+}
+
 /// A phrase in a list, as it is read there.
 #[derive(Clone, Copy)]
 pub struct Given<'a> {
-    /// The verdict whose fault, if it is one, is still to be given.
+    /// Its verdict there: what is read as an array or a procedure, or isn't read, has no type.
     pub verdict: Verdict<'a>,
     /// What it is read as.
     pub part: Part<'a>,
-    /// The phrase.
-    pub draft: &'a Draft<'a>,
 }
 
-/// What is found of the parts of a list.
-#[derive(Drop)]
-pub struct Parts<'a> {
-    /// What each is read as. It isn't wanted once the list is judged, so it isn't in the arena.
-    pub parts: Vec<Part<'a>>,
-    /// The parts.
-    pub drafts: Vec<DraftActual<'a>, &'a Bump>,
-}
-
-/// The phrase without what it gives: it stands for an array or a procedure, or may.
-fn untyped<'a>(arena: &'a Bump, draft: &Draft<'a>) -> Result<&'a Draft<'a>, AllocError>
-    ensures { IfOk result (λ d. draft_view d.now ≡ typed.untyped (draft_view draft.now)) }
-{
-    let draft = arena.try_alloc(Draft {
-        gives: DraftGives::Untyped,
-        ..*draft
-    })?;
-    Ok(draft)
-}
-
-/// A phrase that is read as a phrase.
-fn phrase_given<'a>(is_variable: bool, found: Typed<'a>) -> Given<'a>
-    ensures { given_out result ≡ rules.phrase_given is_variable (found_view found.entry) }
+/// A phrase with this verdict that is read as a phrase.
+fn phrase_given<'a>(is_variable: bool, found: Verdict<'a>) -> Given<'a>
+    ensures verdict { result.verdict ≡ found.entry }
+    ensures part { view.part result.part ≡ phrase_part is_variable (type_of (types.verdict found.entry)) }
 {
     Given {
-        verdict: found.verdict,
-        part: phrase_part(is_variable, given(found.verdict)),
-        draft: found.draft,
+        verdict: found,
+        part: phrase_part(is_variable, given(found)),
     }
 }
 
 /// A name alone that is read as this: as an array or a procedure it gives no fault, and has no type.
-fn read_as<'a>(arena: &'a Bump, part: Part<'a>, found: Typed<'a>) -> Result<Given<'a>, AllocError>
-    ensures { IfOk result (λ g. given_out g ≡ rules.read_as (view.part part.entry) (found_view found.entry)) }
+fn read_as<'a>(part: Part<'a>, found: Verdict<'a>) -> Given<'a>
+    ensures { NameReads (types.verdict found.entry) result (rules.read_as (view.part part.entry)) }
 {
-    match part {
-        Part::Statement(_) | Part::Value(_, _) | Part::Typeless => Ok(Given {
-            verdict: found.verdict,
-            part,
-            draft: found.draft,
-        }),
-        _ => Ok(Given {
-            verdict: Err(NoType::Silent),
-            part,
-            draft: untyped(arena, found.draft)?,
-        }),
-    }
+    let verdict = match part {
+        Part::Statement(_) | Part::Value(_, _) | Part::Typeless => found,
+        _ => Err(NoType::Silent),
+    };
+    Given { verdict, part }
 }
 
 /// A name alone.
-fn name_given<'a>(
-    arena: &'a Bump,
-    wanted: Wanted<'a>,
-    means: Option<Meaning<'a>>,
-    found: Typed<'a>,
-) -> Result<Given<'a>, AllocError>
-    ensures { IfOk result (λ g. given_out g ≡ rules.name_given (view.wanted wanted.entry)
-        (option_map view.meaning means.entry) (found_view found.entry)) }
+fn name_given<'a>(wanted: Wanted<'a>, means: Option<Meaning<'a>>, found: Verdict<'a>) -> Given<'a>
+    ensures { NameReads (types.verdict found.entry) result
+        (rules.name_given (view.wanted wanted.entry) (option_map view.meaning means.entry)) }
 {
     match means {
-        None => Ok(phrase_given(false, found)),
-        Some(meaning) => read_as(arena, wanted.read_name(meaning, found.verdict), found),
+        None => phrase_given(false, found),
+        Some(meaning) => read_as(wanted.read_name(meaning, found), found),
     }
 }
 
-/// What a part of a list is read as, by what it gives as a phrase.
-fn part_of<'a>(actual: &DraftActual<'a>) -> Part<'a>
-    ensures { view.part result ≡ part_of_actual (actual_view actual.now) }
+/// What a part of a list is read as where it isn't asked whether it is a variable: what isn't read as a phrase has no type.
+fn plain_part(part: Part<'_>) -> Part<'_>
+    ensures { view.part result ≡ plain (view.part part.entry) }
 {
-    match actual {
-        DraftActual::Star(_) => Part::Star,
-        DraftActual::Phrase(draft) => phrase_part(false, draft.gives.phrase_type()),
+    match part {
+        Part::Star => Part::Star,
+        Part::Statement(_) => Part::Statement(false),
+        Part::Value(_, of) => Part::Value(false, of),
+        _ => Part::Typeless,
     }
 }
 
-/// What the parts of a list are read as, by what they give as phrases.
-fn parts_of_list<'a>(
-    alloc: Global,
-    actuals: &[DraftActual<'a>],
-) -> Result<Vec<Part<'a>>, AllocError>
-    ensures { IfOk result (λ parts. map view.part parts.items
-        ≡ map part_of_actual (map actual_view actuals.now)) }
+/// The same of all parts of a list.
+fn plain_parts<'a>(alloc: Global, parts: &[Part<'a>]) -> Result<Vec<Part<'a>>, AllocError>
+    ensures { IfOk result (λ read. map view.part read.items ≡ map plain (map view.part parts.now)) }
 {
-    let mut parts = Vec::with_capacity(alloc, actuals.len())?;
-    for actual in actuals {
-        parts.push(part_of(actual))?;
+    let mut read = Vec::with_capacity(alloc, parts.len())?;
+    for part in parts {
+        read.push(plain_part(*part))?;
     }
-    Ok(parts)
+    Ok(read)
 }
 
-/// What the parts of a list behind a name are read as, by what they give as phrases: a substring list has none.
-#[tactic(auto, using(typed_drafts::proofs::DraftRows::slice_actuals, crate::proofs::InLists::parts_onto))]
-fn parts_of_first<'a>(alloc: Global, list: &DraftList<'a>) -> Result<Vec<Part<'a>>, AllocError>
-    ensures { IfOk result (λ parts. map view.part parts.items ≡ parts_of_listing (list_view list.now)) }
+/// A verdict that leaves what has it without type.
+fn without_type(verdict: Verdict<'_>) -> Verdict<'_>
+    ensures { types.verdict result ≡ without_type (types.verdict verdict.entry) }
 {
-    match &list.kind {
-        DraftListKind::Actuals(actuals) => parts_of_list(alloc, actuals),
-        DraftListKind::Part(_, _) => Ok(Vec::new(alloc)),
+    match verdict {
+        Ok(_) => Err(NoType::Silent),
+        Err(no_type) => Err(no_type),
     }
 }
 
-/// What the parts of the first of the lists behind a name are read as, by what they give as phrases.
-fn parts_of_lists<'a>(alloc: Global, lists: &[DraftList<'a>]) -> Result<Vec<Part<'a>>, AllocError>
-    ensures { (name : Place) → IfOk result (λ parts. map view.part parts.items
-        ≡ rules.parts_of_kind (typed.Named name (lists_onto (map list_view lists.now) typed.no_lists))) }
-{
-    match lists.first() {
-        None => Ok(Vec::new(alloc)),
-        Some(list) => parts_of_first(alloc, list),
-    }
-}
-
-/// What the parts of the first list behind a name are read as, by what they give as phrases.
-fn parts_of<'a>(alloc: Global, draft: &Draft<'a>) -> Result<Vec<Part<'a>>, AllocError>
-    ensures { IfOk result (λ parts. map view.part parts.items
-        ≡ rules.parts_of_kind (kind_view draft.now.kind)) }
-{
-    match &draft.kind {
-        DraftKind::Applied(applied) => parts_of_list(alloc, applied.actuals),
-        DraftKind::Listed(listed) => parts_of_lists(alloc, listed.lists),
-        _ => Ok(Vec::new(alloc)),
-    }
-}
-
-/// The name of an array of so many dimensions with a list behind it: a subarray where its parts say so.
+/// The name of an array of so many dimensions, with a list of these parts behind it: a subarray where they say so.
 fn array_given<'a>(
     alloc: Global,
-    arena: &'a Bump,
     place: Place,
     wanted: Wanted<'a>,
     element: ValueType<'a>,
     dimensions: u32,
-    found: Typed<'a>,
+    found: Verdict<'a>,
+    parts: &[Part<'a>],
 ) -> Result<Given<'a>, AllocError>
-    ensures { IfOk result (λ g. given_out g ≡ rules.array_given place (view.wanted wanted.entry)
-        (types.value_type element.entry) dimensions
-        (rules.parts_of_kind (kind_view found.entry.draft.now.kind)) (found_view found.entry)) }
+    ensures { IfOk result (λ g. NameReads (types.verdict found.entry) g
+        (rules.array_given place (view.wanted wanted.entry) (types.value_type element.entry) dimensions
+        (map plain (map view.part parts.now)))) }
 {
-    let parts = parts_of(alloc, found.draft)?;
+    let parts = plain_parts(alloc, parts)?;
     if !wanted.is_subarray(&parts) {
         return Ok(phrase_given(true, found));
     }
-    let verdict = subarray_row(place, dimensions, &parts);
-    let part = subarray_part(wanted, element, &parts, verdict);
-    drop(parts);
-    let draft = untyped(arena, found.draft)?;
+    let row = subarray_row(place, dimensions, &parts);
     Ok(Given {
-        verdict,
-        part,
-        draft,
+        verdict: without_type(row),
+        part: subarray_part(wanted, element, &parts, row),
     })
 }
 
@@ -199,127 +182,62 @@ fn is_variable(means: Option<Meaning<'_>>) -> bool
     }
 }
 
-/// A name with a list behind it.
-fn list_given<'a>(
+/// A name that means this, with one list of these parts behind it, in a list.
+pub fn list_given<'a>(
     alloc: Global,
-    arena: &'a Bump,
     place: Place,
     wanted: Wanted<'a>,
     means: Option<Meaning<'a>>,
-    found: Typed<'a>,
+    found: Verdict<'a>,
+    parts: &[Part<'a>],
 ) -> Result<Given<'a>, AllocError>
-    ensures { IfOk result (λ g. given_out g ≡ rules.list_given place (view.wanted wanted.entry)
-        (option_map view.meaning means.entry) (found_view found.entry)) }
+    ensures { IfOk result (λ g. ListReads (types.verdict found.entry) (map view.part parts.now) g
+        (rules.list_given place (view.wanted wanted.entry) (option_map view.meaning means.entry))) }
 {
     match means {
-        Some(Meaning::Array(element, dimensions)) => {
-            array_given(alloc, arena, place, wanted, element, dimensions, found)
-        }
+        Some(Meaning::Array(element, dimensions)) => array_given(
+            alloc, place, wanted, element, dimensions, found, parts,
+        ),
         _ => Ok(phrase_given(is_variable(means), found)),
     }
 }
 
-/// Whether a list is no substring list.
-fn is_of_actuals(list: &List) -> bool
-    ensures { result ≡ of_actuals (list_tree list.now) }
-{
-    matches!(list.kind, ListKind::Actuals(_))
-}
-
-/// A name and the lists behind it in a list, as what is wanted there.
+/// A name with lists behind it, or none, but not one list of actuals alone.
 fn listed_given<'a>(
-    alloc: Global,
-    arena: &'a Bump,
     path: &KnownPath<'_, '_, 'a>,
-    place: Place,
     wanted: Wanted<'a>,
     listed: &Listed,
-    found: Typed<'a>,
-) -> Result<Given<'a>, AllocError>
-    ensures { (first : Place) → IfOk result (λ g. given_out g ≡ rules.given path.now
-        (view.wanted wanted.entry) (At place first (listed_tree listed.now)) (found_view found.entry)) }
+    found: Verdict<'a>,
+) -> Given<'a>
+    requires { is_application (listed_tree listed.now) ≡ false }
+    ensures { (place first : Place) → NameReads (types.verdict found.entry) result
+        (rules.given path.now (view.wanted wanted.entry) (At place first (listed_tree listed.now))) }
 {
     let means = meaning_of(path.declared(&listed.name));
-    match listed.lists.first() {
-        None => name_given(arena, wanted, means, found),
-        Some(list) if listed.lists.len() == 1 && is_of_actuals(list) => {
-            list_given(alloc, arena, place, wanted, means, found)
-        }
-        Some(_) => Ok(phrase_given(is_variable(means), found)),
+    if listed.lists.is_empty() {
+        name_given(wanted, means, found)
+    } else {
+        phrase_given(is_variable(means), found)
     }
 }
 
-/// A phrase in a list, as what is wanted there.
+/// A phrase in a list, as what is wanted there. It is no name with one list of actuals.
 pub fn read<'a>(
-    alloc: Global,
-    arena: &'a Bump,
     path: &KnownPath<'_, '_, 'a>,
     wanted: Wanted<'a>,
     phrase: &Phrase,
-    found: Typed<'a>,
-) -> Result<Given<'a>, AllocError>
-    ensures { IfOk result (λ g. given_out g ≡ rules.given path.now
-        (view.wanted wanted.entry) (tree phrase.now) (found_view found.entry)) }
+    found: Verdict<'a>,
+) -> Given<'a>
+    requires { is_application (kind_tree phrase.now.kind) ≡ false }
+    ensures { let o = typed_phrase path.now (tree phrase.now) in types.verdict found.entry ≡ o.verdict →
+        Reads result o (rules.given path.now (view.wanted wanted.entry) (tree phrase.now) o) }
 {
     match &phrase.kind {
         Kind::Named(name) => {
             let means = meaning_of(path.declared(&name.spelling()));
-            name_given(arena, wanted, means, found)
+            name_given(wanted, means, found)
         }
-        Kind::Applied(applied) => {
-            let means = meaning_of(path.declared(&applied.name.spelling()));
-            list_given(alloc, arena, phrase.place, wanted, means, found)
-        }
-        Kind::Listed(listed) => listed_given(
-            alloc,
-            arena,
-            path,
-            phrase.place,
-            wanted,
-            listed,
-            found,
-        ),
-        _ => Ok(phrase_given(false, found)),
-    }
-}
-
-impl<'a> Parts<'a> {
-    /// No parts, with room for so many.
-    pub fn with_capacity(
-        alloc: Global,
-        arena: &'a Bump,
-        count: usize,
-    ) -> Result<Parts<'a>, AllocError>
-        ensures parts { IfOk result (λ found. found.parts.items ≡ []) }
-        ensures drafts { IfOk result (λ found. found.drafts.items ≡ []) }
-    {
-        Ok(Parts {
-            parts: Vec::with_capacity(alloc, count)?,
-            drafts: Vec::with_capacity(arena, count)?,
-        })
-    }
-
-    /// Adds a `*`.
-    pub fn add_star(&mut self, place: Place) -> Result<(), AllocError>
-        ensures parts { OnOk result (map view.part self.new.parts.items
-            ≡ map view.part self.old.parts.items ++ meanings.a_star ∷ []) }
-        ensures drafts { OnOk result (map actual_view self.new.drafts.items
-            ≡ map actual_view self.old.drafts.items ++ typed.Star place ∷ []) }
-    {
-        self.parts.push(Part::Star)?;
-        self.drafts.push(DraftActual::Star(place))?;
-        Ok(())
-    }
-
-    /// Adds a phrase.
-    pub fn add(&mut self, part: Part<'a>, draft: &'a Draft<'a>) -> Result<(), AllocError>
-        ensures parts { OnOk result (map view.part self.new.parts.items
-            ≡ map view.part self.old.parts.items ++ view.part part.entry ∷ []) }
-        ensures drafts { OnOk result (map actual_view self.new.drafts.items
-            ≡ map actual_view self.old.drafts.items ++ typed.Given (draft_view draft.now) ∷ []) }
-    {
-        self.parts.push(part)?;
-        self.drafts.push(DraftActual::Phrase(draft))?;
-        Ok(())
+        Kind::Listed(listed) => listed_given(path, wanted, listed, found),
+        _ => phrase_given(false, found),
     }
 }

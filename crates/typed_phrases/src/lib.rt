@@ -1,4 +1,4 @@
-//! What is found of a phrase by what is found of its parts, kind by kind.
+//! What a phrase gives by what its parts give, kind by kind.
 #![tactic(auto)]
 
 mod actuals;
@@ -6,18 +6,16 @@ mod assignments;
 mod cases;
 mod designators;
 mod items;
-mod making;
-mod prefixes;
+mod operators;
 mod statements;
 
-pub use actuals::{Given, Parts, read};
-pub use assignments::{assigned, left_of};
-pub use cases::{Cases, case_do};
-pub use designators::{Front, Lists, applied, name_alone, named};
-pub use items::{Items, block, has_labels, item_verdict, labelled};
-pub use making::{Links, Phrases, Spot, Typed, chained, empty, leaf, noted, quoted, relation};
-pub use prefixes::{Prefix, prefixed};
+pub use actuals::{Application, Given, list_given, read};
+pub use assignments::{assigned_verdict, left_of};
+pub use cases::{both_give, case_do_verdict};
+pub use designators::Front;
+pub use items::{has_labels, item_verdict, then_item};
+pub use operators::{Prefix, given, linked, noted, prefixed_verdict, relation_verdict};
 pub use statements::{
-    Range, case_value, control_scope, for_list, for_range, if_else, if_then, is_class, jump,
-    while_do,
+    Phrases, Range, case_value_verdict, control_scope, for_list_verdict, goto_verdict,
+    if_else_verdict, if_verdict, is_verdict, range_verdict, while_verdict,
 };

@@ -1,26 +1,21 @@
-use Rattle.std.proofs.Common.{◌≡◌, suc, ◌+◌, ◌*◌, ◌++◌, map, drop}
-use Rattle.algolw_tree.specs.Grammar.{phrases_of, links_of, lists_of, actuals_of, items_of, decls_of, bounds_of}
-use Rattle.algolw_tree.specs.View.{tree, part_tree, link_tree, list_tree, actual_tree, item_tree, labelled_tree, decl_tree, bound_tree, procedure_tree}
-use Rattle.algolw_typing.specs.Names.{declared}
+use Rattle.std.proofs.Common.{◌≡◌, ℕ, ◌+◌, ◌*◌, ◌++◌, suc, drop, map}
+use Rattle.algolw_tree.specs.Grammar.{phrases_of, links_of, lists_of, actuals_of, items_of, bounds_of, decls_of}
+use Rattle.algolw_tree.specs.View.{tree, part_tree, link_tree, list_tree, actual_tree, item_tree, bound_tree, decl_tree, procedure_tree, optional_tree}
+use Rattle.algolw_tree.proofs.Sizes.{size, size_perhaps, size_phrases, size_links, size_lists, size_listing, size_actuals, size_actual, size_items, size_bounds, size_decls, size_decl}
 use Rattle.algolw_typing.specs.Scopes.{Scopes}
 use Rattle.algolw_typing.specs.Types.{Statement}
 use Rattle.algolw_typing.specs.Typing as rules
-use Rattle.algolw_typing.specs.Typing.{typed_phrases, typed_links, typed_parts, typed_items, typed_bounds, typed_decls, first_list}
+use Rattle.algolw_typing.specs.Typing.{typed_bounds, typed_decls, typed_items, typed_links, typed_parts, typed_phrases}
 use Rattle.algolw_typing.specs.Verdicts.{Good}
 use Rattle.typing_rules.specs.MeaningView.{part, reading}
 use Rattle.typing_rules.specs.View as view
 use Rattle.declared_names.specs.Blocks.{bounds_view, each_bounds}
 use Rattle.typed_phrases.specs.FoundParts.{all_view, given_view}
-use Rattle.typed_drafts.specs.DraftParts.{lent_view}
 use Rattle.typed_phrases.specs.Fronts.{front_lists}
 use Rattle.typed_phrases.specs.FrontViews.{front_view}
-use Rattle.typed_drafts.specs.DraftView.{part_view, link_view, actual_view, item_view, decl_view}
-use Rattle.typed_drafts.specs.DraftParts.{list_view, bound_view}
-use Rattle.algolw_tree.specs.View.{optional_tree}
 use Rattle.phrase_checker.proofs.BlockSteps.{BoundsSoFar, DeclsSoFar, ItemsSoFar, phrase_in}
 use Rattle.phrase_checker.proofs.ListSteps.{ListsSoFar, PartsSoFar}
-use Rattle.algolw_tree.proofs.Sizes.{size, size_perhaps, size_phrases, size_links, size_lists, size_listing, size_actuals, size_actual, size_items, size_bounds, size_decls, size_decl}
-use Rattle.phrase_checker.proofs.Turns.{PhrasesSoFar, CasesSoFar, LinksSoFar}
+use Rattle.phrase_checker.proofs.Turns.{CasesSoFar, LinksSoFar, PhrasesSoFar}
 use Rattle.phrase_checker.proofs.checker.Checker.+phrases.Given as goal
 
 abbrev pub decreases-phrase : goal.decreases-phrase
@@ -64,23 +59,30 @@ decreases-case l = suc (suc (3 * size (part_tree l.part.now)))
 
 abbrev pub invariant-cases-loop-part : goal.invariant-cases-loop-part
 invariant-cases-loop-part l =
-    CasesSoFar l.initial.self.faults.items l.self.faults.items (given_view l.found.gives) (map part_view l.found.drafts.items) (typed_phrases l.path (phrases_of (map part_tree l.parts)))
-    (typed_phrases l.path (phrases_of (map part_tree (drop l.part-index l.parts))))
+    CasesSoFar l.initial.self.log l.self.log (given_view l.gives) (typed_phrases l.path (phrases_of (map part_tree l.parts))) (typed_phrases l.path (phrases_of (map part_tree (drop l.part-index l.parts))))
 
 abbrev pub decreases-phrases : goal.decreases-phrases
 decreases-phrases l = 3 * size_phrases (phrases_of (map tree l.phrases.now))
 
 abbrev pub invariant-phrases-loop-phrase : goal.invariant-phrases-loop-phrase
-invariant-phrases-loop-phrase l = PhrasesSoFar l.initial.self.faults.items l.self.faults.items (all_view l.found.gives) (map lent_view l.found.drafts.items) (typed_phrases l.path (phrases_of (map tree l.phrases))) (typed_phrases l.path (phrases_of (map tree (drop l.phrase-index l.phrases))))
+invariant-phrases-loop-phrase l =
+    PhrasesSoFar l.initial.self.log l.self.log (all_view l.found.gives) (typed_phrases l.path (phrases_of (map tree l.phrases))) (typed_phrases l.path (phrases_of (map tree (drop l.phrase-index l.phrases))))
 
 abbrev pub invariant-links-loop-link : goal.invariant-links-loop-link
-invariant-links-loop-link l = LinksSoFar l.initial.self.faults.items l.self.faults.items (map link_view l.found.drafts.items) (typed_links l.path (view.verdict l.initial.found.verdict) (links_of (map link_tree l.links))) (typed_links l.path (view.verdict l.found.verdict) (links_of (map link_tree (drop l.link-index l.links))))
+invariant-links-loop-link l =
+    LinksSoFar l.initial.self.log l.self.log (typed_links l.path (view.verdict l.initial.front) (links_of (map link_tree l.links))) (typed_links l.path (view.verdict l.front) (links_of (map link_tree (drop l.link-index l.links))))
 
 abbrev pub decreases-is_class : goal.decreases-is_class
 decreases-is_class l = 3 * suc (size (tree l.operand.now))
 
 abbrev pub decreases-assign : goal.decreases-assign
-decreases-assign l = suc (3 * suc (size (tree l.assignment.now.target) + size (tree l.assignment.now.value)))
+decreases-assign l = suc (suc (3 * suc (size (tree l.assignment.now.target) + size (tree l.assignment.now.value))))
+
+abbrev pub decreases-assignment : goal.decreases-assignment
+decreases-assignment l = suc (3 * suc (size (tree l.assignment.now.target) + size (tree l.assignment.now.value)))
+
+abbrev pub decreases-value : goal.decreases-value
+decreases-value l = suc (suc (3 * size (tree l.phrase.now)))
 
 abbrev pub decreases-controlled : goal.decreases-controlled
 decreases-controlled l = 3 * suc (size (tree l.body.now))
@@ -104,13 +106,19 @@ abbrev pub decreases-list : goal.decreases-list
 decreases-list l = 3 * size_listing (list_tree l.list.now)
 
 abbrev pub decreases-applied : goal.decreases-applied
-decreases-applied l = suc (3 * size_actuals (actuals_of (map actual_tree l.application.now.actuals.items)))
+decreases-applied l = suc (suc (3 * size_actuals (actuals_of (map actual_tree l.applied.now.actuals.items))))
+
+abbrev pub decreases-application : goal.decreases-application
+decreases-application l = suc (3 * size_actuals (actuals_of (map actual_tree l.application.actuals.now)))
 
 abbrev pub decreases-parts : goal.decreases-parts
 decreases-parts l = 3 * size_actuals (actuals_of (map actual_tree l.actuals.now))
 
 abbrev pub decreases-actual : goal.decreases-actual
 decreases-actual l = 3 * size_actual (actual_tree l.actual.now)
+
+abbrev pub decreases-given : goal.decreases-given
+decreases-given l = suc (3 * size (tree l.phrase.now))
 
 abbrev pub decreases-block : goal.decreases-block
 decreases-block l = 3 * suc (suc (size_decls (decls_of (map decl_tree l.decls.now)) + size_items (items_of (map item_tree l.items.now))))
@@ -142,38 +150,32 @@ decreases-items l = suc (suc (3 * size_items (items_of (map item_tree l.items.no
 abbrev pub decreases-item : goal.decreases-item
 decreases-item l = suc (3 * suc (size (phrase_in (item_tree l.item.now))))
 
-abbrev pub decreases-labelled_item : goal.decreases-labelled_item
-decreases-labelled_item l = 3 * suc (size (phrase_in (labelled_tree l.item.now)))
-
 abbrev pub decreases-item_phrase : goal.decreases-item_phrase
 decreases-item_phrase l = suc (suc (3 * size (tree l.phrase.now)))
 
 abbrev pub invariant-named-loop-list : goal.invariant-named-loop-list
 invariant-named-loop-list l =
-    ListsSoFar l.initial.self.faults.items l.self.faults.items (map list_view l.found.drafts.items) (first_list l.path l.spot.place (declared l.path l.name) (lists_of (map list_tree l.lists)))
-    (front_lists l.path (front_view l.name l.found.front) (lists_of (map list_tree (drop l.list-index l.lists))))
+    ListsSoFar l.initial.self.log l.self.log (front_lists l.path (front_view l.name l.initial.front) (lists_of (map list_tree l.lists))) (front_lists l.path (front_view l.name l.front) (lists_of (map list_tree (drop l.list-index l.lists))))
 
 abbrev pub invariant-parts-loop-actual : goal.invariant-parts-loop-actual
 invariant-parts-loop-actual l =
-    PartsSoFar l.initial.self.faults.items l.self.faults.items (map part l.found.parts.items) (map actual_view l.found.drafts.items) (typed_parts l.path (reading l.initial.reading) (actuals_of (map actual_tree l.actuals)))
-    (typed_parts l.path (reading l.reading) (actuals_of (map actual_tree (drop l.actual-index l.actuals))))
+    PartsSoFar l.initial.self.log l.self.log (map part l.found.items) (typed_parts l.path (reading l.initial.reading) (actuals_of (map actual_tree l.actuals))) (typed_parts l.path (reading l.reading) (actuals_of (map actual_tree (drop l.actual-index l.actuals))))
 
 -- what is declared, and the bounds that are found, with what is left are all
 abbrev pub invariant-meanings-loop-decl : goal.invariant-meanings-loop-decl
 invariant-meanings-loop-decl l =
-    (l.self.faults.items ≡ l.initial.self.faults.items)
+    (l.self.log ≡ l.initial.self.log)
     × (l.scope ++ rules.meanings l.path l.names (decls_of (map decl_tree (drop l.decl-index l.decls))) ≡ l.initial.scope ++ rules.meanings l.path l.names (decls_of (map decl_tree l.decls)))
     × (map bounds_view l.found.items ++ each_bounds l.path (map decl_tree (drop l.decl-index l.decls)) ≡ each_bounds l.path (map decl_tree l.decls))
 
 abbrev pub invariant-bounds-loop-bound : goal.invariant-bounds-loop-bound
-invariant-bounds-loop-bound l = BoundsSoFar l.initial.self.faults.items l.self.faults.items (map bound_view l.found.items) (typed_bounds l.path (bounds_of (map bound_tree l.bounds))) (typed_bounds l.path (bounds_of (map bound_tree (drop l.bound-index l.bounds))))
+invariant-bounds-loop-bound l = BoundsSoFar l.initial.self.log l.self.log (typed_bounds l.path (bounds_of (map bound_tree l.bounds))) (typed_bounds l.path (bounds_of (map bound_tree (drop l.bound-index l.bounds))))
 
 abbrev pub invariant-decls-loop-position : goal.invariant-decls-loop-position
 invariant-decls-loop-position l =
     (around : Scopes) → map bounds_view l.bounds ≡ each_bounds around (map decl_tree l.decls)
-    → DeclsSoFar l.initial.self.faults.items l.self.faults.items (map decl_view l.found.items) (typed_decls around l.path (decls_of (map decl_tree l.decls))) (typed_decls around l.path (decls_of (map decl_tree (drop l.position l.decls))))
+    → DeclsSoFar l.initial.self.log l.self.log (typed_decls around l.path (decls_of (map decl_tree l.decls))) (typed_decls around l.path (decls_of (map decl_tree (drop l.position l.decls))))
 
 abbrev pub invariant-items-loop-position : goal.invariant-items-loop-position
 invariant-items-loop-position l =
-    ItemsSoFar l.initial.self.faults.items l.self.faults.items (map item_view l.found.drafts.items) (typed_items l.path (Good Statement) (items_of (map item_tree l.items)))
-    (typed_items l.path (view.verdict l.found.verdict) (items_of (map item_tree (drop l.position l.items))))
+    ItemsSoFar l.initial.self.log l.self.log (typed_items l.path (Good Statement) (items_of (map item_tree l.items))) (typed_items l.path (view.verdict l.verdict) (items_of (map item_tree (drop l.position l.items))))

@@ -1,7 +1,7 @@
 use Rattle.std.proofs.Common.{◌≡◌, map, take}
-use Rattle.typed_drafts.specs.DraftView.{placed_view}
+use Rattle.algolw_typing.specs.Typing.{declare_at}
 use Rattle.program_numbers.specs.Makes.{target_in}
 use Rattle.program_numbers.proofs.numbering.Numbering.targets.Given as goal
 
-abbrev pub invariant-loop-place : goal.invariant-loop-place
-invariant-loop-place l = map (target_in l.self) l.targets.items ≡ placed_view (take l.place-index l.places)
+abbrev pub invariant-loop-name : goal.invariant-loop-name
+invariant-loop-name l = map (target_in l.self) l.targets.items ≡ declare_at (take l.name-index l.names)

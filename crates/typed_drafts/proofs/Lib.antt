@@ -1,4 +1,0 @@
-pub mod DraftRows
-pub mod DraftSizes
-pub mod KindRows
-pub mod StatementArms
