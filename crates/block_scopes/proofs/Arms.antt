@@ -11,7 +11,6 @@ use Rattle.algolw_tree.specs.Tree.{Placed}
 use Rattle.algolw_tree.proofs.Sizes.{size, size_items}
 use Rattle.algolw_typing.specs.Naming.{Naming, Frame, NamePath, nothing, and, naming, kind_naming, perhaps_naming, phrases_naming, items_naming, decl_naming, label_names, declares, inside, of_procedure, scope_of, formal_names, formal_uses, result_uses}
 use Rattle.block_scopes.specs.declared.resolver.Resolver.{Resolver}
-use Rattle.std.proofs.lemmas.Result.{on_ok_weaker}
 use Rattle.block_scopes.specs.Adding.{Adds}
 use Rattle.block_scopes.proofs.Added.{adds_and}
 use Rattle.block_scopes.specs.Parts.{listing_naming, item_naming, item_labels, controlled_naming}
@@ -49,13 +48,6 @@ pub for_list_naming : (f : Frame) (path : NamePath) (p : Place) (n : List ℕ) (
 for_list_naming f path p n xs as_ c e = ap (λ (ys : List Placed). controlled_naming f path ys (phrases_naming (inside f ys) path as_) c) e
 
 -- a scope round a body alone
-pub controlled : {T E : Type 0} (r : Result T E) (a b c d : Resolver) (f inner : Frame) (path : NamePath) (xs : List Placed) (head : Naming) (body : Tree.Phrase) → Adds a b (declares f xs) → inner ≡ inside f xs → Adds b c head
-    → OnOk r (Adds c d (naming inner (scope_of xs ∷ path) body)) → OnOk r (Adds a d (controlled_naming f path xs head body))
-controlled r a b c d f inner path xs head body scope is before h =
-    let last : Naming = naming (inside f xs) (scope_of xs ∷ path) body in
-    on_ok_weaker r (λ g. adds_and a b d (declares f xs) (and head last) scope (adds_and b c d head last before g)) (subst (λ (i : Frame). OnOk r (Adds c d (naming i (scope_of xs ∷ path) body))) is h)
-
--- the same with all that it adds at hand
 pub controlled_adds : (a b c d : Resolver) (f inner : Frame) (path within : NamePath) (xs : List Placed) (head : Naming) (body : Tree.Phrase) → Adds a b (declares f xs) → inner ≡ inside f xs → Adds b c head → within ≡ scope_of xs ∷ path
     → Adds c d (naming inner within body) → Adds a d (controlled_naming f path xs head body)
 controlled_adds a b c d f inner path within xs head body scope is before at h =

@@ -1,4 +1,4 @@
-ghost use Rattle.std.specs.Prelude.{◌≡◌, ◌∷◌, [], ◌++◌, OnOk, IfOk, map};
+ghost use Rattle.std.specs.Prelude.{◌≡◌, ◌∷◌, ◌++◌, OnOk, IfOk, map};
 ghost use Rattle.algolw_tree.specs.Grammar.{decls_of, items_of};
 ghost use Rattle.algolw_tree.specs.View.{spec_tree, formal_tree, decl_tree, item_tree, procedure_tree};
 ghost use Rattle.algolw_typing.specs.Scopes.{group_names};
@@ -14,8 +14,8 @@ use value_ops::Place;
 fn add_names<'t>(scope: &mut Scope<'t>, names: &'t [(Spelling, Place)]) -> Result<(), AllocError>
     ensures { OnOk result (scope.new ≡ scope.old ++ names.now) }
 {
-    for (name, place) in names {
-        scope.declare(name, *place)?;
+    for name in names {
+        scope.declare(name)?;
     }
     Ok(())
 }
@@ -35,8 +35,7 @@ fn add_class<'t>(scope: &mut Scope<'t>, class: &'t ClassDecl) -> Result<(), Allo
     ensures { OnOk result (scope.new ≡ scope.old
         ++ class.now.name ∷ group_names (map (λ g. (spec_tree g.0, g.1.items)) class.now.groups.items)) }
 {
-    let (name, place) = &class.name;
-    scope.declare(name, *place)?;
+    scope.declare(&class.name)?;
     add_groups(scope, &class.groups)?;
     Ok(())
 }
@@ -45,8 +44,7 @@ fn add_class<'t>(scope: &mut Scope<'t>, class: &'t ClassDecl) -> Result<(), Allo
 fn add_procedure<'t>(scope: &mut Scope<'t>, procedure: &'t ProcDecl) -> Result<(), AllocError>
     ensures { OnOk result (scope.new ≡ scope.old ++ decl_names (procedure_tree procedure.now)) }
 {
-    let (name, place) = &procedure.name;
-    scope.declare(name, *place)
+    scope.declare(&procedure.name)
 }
 
 /// Declares what a declaration does.
@@ -114,18 +112,5 @@ pub fn formal_scope<'t>(alloc: Global, formals: &'t [Formal]) -> Result<Scope<'t
     for formal in formals {
         add_names(&mut scope, &formal.names)?;
     }
-    Ok(scope)
-}
-
-/// What a FOR declares around its body: its name, which stands at this place.
-pub fn control_scope<'t>(
-    alloc: Global,
-    name: &'t Spelling,
-    place: Place,
-) -> Result<Scope<'t>, AllocError>
-    ensures { IfOk result (λ scope. scope ≡ (name.now, place) ∷ []) }
-{
-    let mut scope = Scope::new(alloc);
-    scope.declare(name, place)?;
     Ok(scope)
 }

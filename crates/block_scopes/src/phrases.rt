@@ -6,7 +6,7 @@ ghost use Rattle.algolw_typing.specs.Naming.{and, naming, kind_naming, phrases_n
 ghost use Rattle.block_scopes.specs.Adding.{Adds, frame_view};
 ghost use Rattle.block_scopes.specs.Parts.{listing_naming, actual_naming, item_naming};
 
-use crate::blocks::{block_scope, control_scope, formal_scope};
+use crate::blocks::{block_scope, formal_scope};
 use crate::frame::Frame;
 use crate::resolver::Resolver;
 use algolw_tree::{
@@ -215,12 +215,12 @@ impl Resolver<'_> {
         ensures { OnOk result (Adds self.old self.new
             (kind_naming (frame_view frame) path.now place (for_step_tree turns.now))) }
     {
-        let scope = control_scope(self.alloc, &turns.name, place)?;
-        let inner = self.declares(frame, &scope)?;
+        let inner = self.controls(frame, &turns.name, place)?;
         self.phrase(inner, path, &turns.start)?;
         self.perhaps(inner, path, &turns.step)?;
         self.phrase(inner, path, &turns.limit)?;
-        self.phrase(inner, &ScopePath::inner(&scope, &*path), &turns.body)?;
+        let own = ScopePath::control(&turns.name, place, &*path);
+        self.phrase(inner, &own, &turns.body)?;
         Ok(())
     }
 
@@ -237,10 +237,10 @@ impl Resolver<'_> {
         ensures { OnOk result (Adds self.old self.new
             (kind_naming (frame_view frame) path.now place (for_list_tree turns.now))) }
     {
-        let scope = control_scope(self.alloc, &turns.name, place)?;
-        let inner = self.declares(frame, &scope)?;
+        let inner = self.controls(frame, &turns.name, place)?;
         self.phrases(inner, path, &turns.values)?;
-        self.phrase(inner, &ScopePath::inner(&scope, &*path), &turns.body)?;
+        let own = ScopePath::control(&turns.name, place, &*path);
+        self.phrase(inner, &own, &turns.body)?;
         Ok(())
     }
 

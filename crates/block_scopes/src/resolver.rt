@@ -1,4 +1,4 @@
-ghost use Rattle.std.specs.Prelude.{◌≡◌, ◌++◌, ◌+◌, ◌<◌, ◌^◌, [], OnOk, IfOk, length};
+ghost use Rattle.std.specs.Prelude.{◌≡◌, ◌∷◌, [], ◌++◌, ◌+◌, ◌<◌, ◌^◌, OnOk, IfOk, length};
 ghost use Rattle.algolw_tree.specs.View.{class_tree};
 ghost use Rattle.algolw_typing.specs.Naming.{class_naming, declares, infos, inside};
 ghost use Rattle.block_scopes.specs.Adding.{Adds, frame_view};
@@ -50,6 +50,26 @@ impl<'a> Resolver<'a> {
         Ok(inner)
     }
 
+    /// Notes the control name of a FOR at its place. The frame inside the FOR.
+    pub fn controls(
+        &mut self,
+        frame: Frame,
+        name: &Spelling,
+        place: Place,
+    ) -> Result<Frame, AllocError>
+        ensures adds { OnOk result (Adds self.old self.new
+            (declares (frame_view frame) ((name.now, place) ∷ []))) }
+        ensures inner { IfOk result (λ inner.
+            frame_view inner ≡ inside (frame_view frame) ((name.now, place) ∷ [])) }
+    {
+        let slot = frame.slot.checked_add(1).ok_or(AllocError)?;
+        add_name(&mut self.names, frame, name, place)?;
+        Ok(Frame {
+            level: frame.level,
+            slot,
+        })
+    }
+
     /// Notes a record class.
     pub fn class(&mut self, path: &ScopePath, class: &ClassDecl) -> Result<(), AllocError>
         ensures { OnOk result (Adds self.old self.new (class_naming path.now (class_tree class.now))) }
@@ -69,12 +89,13 @@ impl<'a> Resolver<'a> {
 fn add_names(
     found: &mut Vec<NameInfo>,
     frame: Frame,
-    names: &[(&Spelling, Place)],
+    names: &[&(Spelling, Place)],
 ) -> Result<(), AllocError>
     requires { frame.slot + length names.now < 2 ^ 32 }
     ensures { OnOk result (found.new.items ≡ found.old.items ++ infos (frame_view frame) (lent names.now)) }
 {
-    for (position, (name, place)) in names.iter().enumerate() {
+    for (position, declared) in names.iter().enumerate() {
+        let (name, place) = *declared;
         found.push(NameInfo {
             name: name_of(name)?,
             place: *place,
@@ -82,5 +103,24 @@ fn add_names(
             slot: frame.slot + position as u32,
         })?;
     }
+    Ok(())
+}
+
+/// Notes a name alone that is declared in a frame.
+fn add_name(
+    found: &mut Vec<NameInfo>,
+    frame: Frame,
+    name: &Spelling,
+    place: Place,
+) -> Result<(), AllocError>
+    ensures { OnOk result (found.new.items ≡ found.old.items
+        ++ infos (frame_view frame) ((name.now, place) ∷ [])) }
+{
+    found.push(NameInfo {
+        name: name_of(name)?,
+        place,
+        level: frame.level,
+        slot: frame.slot,
+    })?;
     Ok(())
 }

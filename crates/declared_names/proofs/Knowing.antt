@@ -1,10 +1,11 @@
 -- Names and what is known of them, one by one.
-use Rattle.std.proofs.Common.{◌≡◌, ℕ, suc, ◌<◌, Bool, true, false, List, [], ◌∷◌, ◌++◌, Option, Some, None, length, get_or, refl, ap, subst, ◌∙◌, arith}
+use Rattle.std.proofs.Common.{◌≡◌, ℕ, suc, ◌<◌, Bool, true, false, List, [], ◌∷◌, ◌++◌, Option, Some, None, length, get_or, refl, sym, ap, subst, ◌∙◌, arith}
 use Rattle.std.proofs.lemmas.Slice.Eq.{bytes_eq-Decides}
 use Rattle.std.specs.Option.{option_map}
 use Rattle.std.specs.Str.{bytes_eq}
 use Rattle.value_ops.specs.declared.places.Place.{Place}
 use Rattle.algolw_tree.specs.Tree.{Placed}
+use Rattle.algolw_typing.specs.Meanings.{a_control}
 use Rattle.algolw_typing.specs.Names as names
 use Rattle.algolw_typing.specs.Names.{in_scope}
 use Rattle.algolw_typing.specs.Scopes as rules
@@ -60,3 +61,11 @@ found (x ∷ xs) (f ∷ fs) q p e d n h = found_by (bytes_eq x.0 q) x xs f fs q 
 -- one entry by its parts
 pub entry_is : (q : List ℕ) (p r : Place) (k l : rules.Known) → p ≡ r → k ≡ l → Some (entry_with (q, p) k) ≡ Some (entry_with (q, r) l)
 entry_is q p r k l e f = ap {B = Option (names.Entry rules.Known)} (λ (z : Place). Some (entry_with (q, z) k)) e ∙ ap {B = Option (names.Entry rules.Known)} (λ (z : rules.Known). Some (entry_with (q, r) z)) f
+
+-- a control name that is this name
+pub control_found : (x q : List ℕ) (p : Place) → bytes_eq x q ≡ true → Some (rules.entry (q, p) (Some a_control)) ≡ in_scope (rules.control_scope p x) q
+control_found x q p same = rw (same, in_scope) (ap {B = Option (names.Entry rules.Known)} (λ (y : List ℕ). Some (rules.entry (y, p) (Some a_control))) (sym ((bytes_eq-Decides x q).0 same)))
+
+-- and one that isn't
+pub control_passed : (x q : List ℕ) (p : Place) → bytes_eq x q ≡ false → in_scope (rules.control_scope p x) q ≡ None
+control_passed x q p other = rw (other, in_scope) refl

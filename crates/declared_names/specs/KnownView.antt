@@ -7,7 +7,7 @@ use Rattle.algolw_typing.specs.Scopes as rules
 use Rattle.typing_rules.specs.MeaningView.{reading, meaning}
 use Rattle.declared_names.specs.declared.known.Known.{Known}
 use Rattle.declared_names.specs.declared.known.Facts.{Facts}
-use Rattle.declared_names.specs.declared.known.Facts.TheVariants.{Nothing, Class, Label, Control, Declared}
+use Rattle.declared_names.specs.declared.known.Facts.TheVariants.{Nothing, Class, Label, Declared}
 use Rattle.algolw_typing.specs.Actuals as actuals
 use Rattle.algolw_typing.specs.Meanings as meanings
 
@@ -23,7 +23,6 @@ abbrev pub facts_view : Facts → rules.Known
 facts_view Nothing = record { is_class = false; reading = actuals.as_phrases; means = None }
 facts_view Class = record { is_class = true; reading = actuals.as_phrases; means = None }
 facts_view Label = record { is_class = false; reading = actuals.as_phrases; means = Some meanings.a_label }
-facts_view Control = record { is_class = false; reading = actuals.as_phrases; means = Some meanings.a_control }
 facts_view (Declared d) = record { is_class = d.now.is_class; reading = reading d.now.reading; means = option_map meaning d.now.means }
 
 -- a declaration of a name at a place

@@ -80,8 +80,7 @@ fn name_alone<'t>(
     } else {
         Facts::Nothing
     };
-    let (name, place) = name;
-    scope.declare(name, *place, facts)
+    scope.declare(name, facts)
 }
 
 /// Declares the names of a declaration, of which nothing is known.
@@ -230,8 +229,7 @@ fn declare_procedure<'t, 'a>(
         reading: Reading::ForFormals(formals),
         means: good(&faults, Meaning::Procedure(result_type, formals)),
     })?;
-    let (name, place) = &procedure.name;
-    scope.declare(name, *place, Facts::Declared(declared))
+    scope.declare(&procedure.name, Facts::Declared(declared))
 }
 
 /// Declares what a declaration with these bounds makes of its names.

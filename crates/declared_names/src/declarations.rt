@@ -257,8 +257,8 @@ pub(crate) fn declare_alike<'t, 'a>(
 ) -> Result<(), AllocError>
     ensures { OnOk result (scope.new ≡ scope.old ++ alike names.now (facts_view facts.entry)) }
 {
-    for (name, place) in names {
-        scope.declare(name, *place, facts)?;
+    for name in names {
+        scope.declare(name, facts)?;
     }
     Ok(())
 }
@@ -498,8 +498,7 @@ pub(crate) fn declare_class<'t, 'a>(
         reading: Reading::AsPhrases,
         means: good(&faults, Meaning::Class(fields)),
     })?;
-    let (name, place) = &class.name;
-    scope.declare(name, *place, Facts::Declared(declared))?;
+    scope.declare(&class.name, Facts::Declared(declared))?;
     declare_fields(arena, path, class, &faults, scope)
 }
 

@@ -37,8 +37,6 @@ pub enum Facts<'a> {
     Class,
     /// They are labels.
     Label,
-    /// It is the control name of a FOR.
-    Control,
     /// What their declaration makes of them.
     Declared(&'a Declared<'a>),
 }
@@ -110,18 +108,17 @@ impl<'t, 'a> KnownScope<'t, 'a> {
         }
     }
 
-    /// Declares a name, of which this is known.
+    /// Declares a name at its place, of which this is known.
     #[tactic(auto, using(crate::proofs::Knowing::one_more))]
     pub fn declare(
         &mut self,
-        name: &'t Spelling,
-        place: Place,
+        name: &'t (Spelling, Place),
         facts: Facts<'a>,
     ) -> Result<(), AllocError>
-        ensures { OnOk result (self.new ≡ self.old ++ entry_with (name.now, place) (facts_view facts.entry) ∷ []) }
+        ensures { OnOk result (self.new ≡ self.old ++ entry_with name.now (facts_view facts.entry) ∷ []) }
     {
         self.facts.push(facts)?;
-        if self.names.declare(name, place).is_err() {
+        if self.names.declare(name).is_err() {
             self.facts.pop();
             return Err(AllocError);
         }
@@ -146,7 +143,7 @@ impl<'t, 'a> KnownScope<'t, 'a> {
             Some(position) => {
                 let (_, place) = self.names.name_at(position as usize);
                 let facts = self.facts[position as usize];
-                Some(known_at(place, facts))
+                Some(known_at(*place, facts))
             }
         }
     }
@@ -166,7 +163,7 @@ impl<'t, 'a> KnownScope<'t, 'a> {
     {
         let (name, place) = self.names.name_at(position);
         if self.names.has_before(name, position) {
-            Some(place)
+            Some(*place)
         } else {
             None
         }
@@ -182,7 +179,6 @@ fn known_at<'a>(place: Place, facts: Facts<'a>) -> Known<'a>
         Facts::Nothing => (false, Reading::AsPhrases, None),
         Facts::Class => (true, Reading::AsPhrases, None),
         Facts::Label => (false, Reading::AsPhrases, Some(Meaning::Label)),
-        Facts::Control => (false, Reading::AsPhrases, Some(Meaning::Control)),
         Facts::Declared(declared) => (declared.is_class, declared.reading, declared.means),
     };
     Known {

@@ -3,6 +3,7 @@
 
 mod blocks;
 mod declarations;
+mod innermost;
 mod known;
 mod path;
 mod procedures;

@@ -1,27 +1,31 @@
 ghost use Rattle.std.specs.Prelude.{◌≡◌, ◌∷◌, ◌<◌, ◌≤◌, ℕ, List, IfSome, suc, length};
 ghost use Rattle.std.specs.Option.{option_map};
 ghost use Rattle.algolw_typing.specs.Names.{declared};
+ghost use Rattle.algolw_typing.specs.Scopes as scopes;
 ghost use Rattle.name_scopes.specs.Marks.{mark_of};
 ghost use Rattle.name_scopes.specs.Nearest.{Nearest, kept_or};
+ghost use Rattle.declared_names.specs.KnownPaths.{known_of};
 ghost use Rattle.declared_names.specs.KnownView.{entry_of};
 ghost use Rattle.declared_names.specs.Standards.{standard_path};
 
+use crate::innermost::Innermost;
 use crate::known::{Known, KnownScope};
 use crate::standard::standard_known;
 use algolw_tree::Spelling;
 use name_scopes::{EachMark, MARKS, mark_of};
 use std::marker::Model;
+use value_ops::Place;
 
-/// A scope, and the path that stands around it.
-type Around<'s, 't, 'a> = Option<(&'s KnownScope<'t, 'a>, &'s KnownPath<'s, 't, 'a>)>;
+/// What stands innermost, and the path that stands around it.
+type Around<'s, 't, 'a> = Option<(Innermost<'s, 't, 'a>, &'s KnownPath<'s, 't, 'a>)>;
 
 /// The scopes in which a phrase stands, the innermost first. The last is that of the standard names, which stands around
 /// each program.
 #[derive(Drop)]
 pub struct KnownPath<'s, 't, 'a> {
-    /// The innermost scope and those around it, where there is more than the standard names.
+    /// What stands innermost and the scopes around it, where there is more than the standard names.
     scopes: Around<'s, 't, 'a>,
-    /// For each mark where a name with it is looked for behind the innermost scope: from the nearest scope on that has the
+    /// For each mark where a name with it is looked for behind what stands innermost: from the nearest scope on that has the
     /// mark, or among the standard names alone.
     nearest: EachMark<Option<&'s KnownPath<'s, 't, 'a>>>,
 }
@@ -62,6 +66,24 @@ impl<'s, 't, 'a> KnownPath<'s, 't, 'a> {
         outer: &'s KnownPath<'s, 't, 'a>,
     ) -> KnownPath<'s, 't, 'a>
         ensures { result ≡ own.now ∷ outer.now }
+    {
+        KnownPath::linked(Innermost::Names(own), outer)
+    }
+
+    /// The control name of a FOR, which is declared at this place, and the scopes around it.
+    pub fn control(
+        name: &'t Spelling,
+        place: Place,
+        outer: &'s KnownPath<'s, 't, 'a>,
+    ) -> KnownPath<'s, 't, 'a>
+        ensures { result ≡ scopes.control_scope place name.now ∷ outer.now }
+    {
+        KnownPath::linked(Innermost::Control(name, place), outer)
+    }
+
+    /// What stands innermost, and the scopes around it.
+    fn linked(own: Innermost<'s, 't, 'a>, outer: &'s KnownPath<'s, 't, 'a>) -> KnownPath<'s, 't, 'a>
+        ensures { result ≡ known_of own.entry ∷ outer.now }
     {
         let nearest = outer.nearest();
         KnownPath {

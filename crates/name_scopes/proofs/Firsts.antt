@@ -8,11 +8,10 @@ use Rattle.std.proofs.lemmas.Slice.Eq.{bytes_eq-Decides}
 use Rattle.std.specs.HashMap.{HashMap, get}
 use Rattle.std.specs.Option.{option_map, option_or, is_some, unwrap_or}
 use Rattle.std.specs.Str.{bytes_eq}
-use Rattle.value_ops.specs.declared.places.Place.{Place}
 use Rattle.algolw_tree.specs.Tree.{Placed}
 use Rattle.algolw_typing.specs.Names.{in_scope}
 use Rattle.algolw_typing.specs.Naming.{scope_of, place_of}
-use Rattle.name_scopes.specs.Firsts.{Firsts, first_of, lent, placed}
+use Rattle.name_scopes.specs.Firsts.{Firsts, first_of, lent}
 use denote.Ref.{Bor}
 
 pub push_step : (same : Bool) (p q : Option ℕ) → (elim same [ true ↦ Some 0 | false ↦ option_map suc (option_or p q) ]) ≡ option_or (elim same [ true ↦ Some 0 | false ↦ option_map suc p ]) (option_map suc q)
@@ -83,6 +82,11 @@ pub none_first : (xs : List Placed) (q : List ℕ) → first_of xs q ≡ None �
 none_first [] q h = refl
 none_first (x ∷ xs) q h = none_step (bytes_eq x.0 q) x xs q (first_of xs q) refl (none_first xs q) h
 
+-- where a name stands alone
+pub place_alone : (same : Bool) (x : Placed) (q : List ℕ) → bytes_eq x.0 q ≡ same → place_of (in_scope (scope_of (x ∷ [])) q) ≡ cond same (Some x.1) None
+place_alone true x q b = rw (b, place_of) refl
+place_alone false x q b = rw (b, place_of) refl
+
 -- what was put at the end is taken away
 pub popped : {X : Type 0} (xs ys zs : List X) (x : X) (n : ℕ) → n ≡ length xs + 1 → ys ≡ xs ++ x ∷ [] → zs ≡ take (n - 1) ys → zs ≡ xs
 popped xs ys zs x n long pushed is =
@@ -120,12 +124,12 @@ first_in_front (x ∷ xs) q zero = none_in_front (first_of (x ∷ xs) q)
 first_in_front (x ∷ xs) q (suc i) = front_step (bytes_eq x.0 q) x xs q i (first_of xs q) refl (first_in_front xs q i)
 
 -- a name more that stands elsewhere
-pub lent-push : (xs ys : List (Bor (List ℕ) × Place)) (x : Bor (List ℕ) × Place) → ys ≡ xs ++ x ∷ [] → lent ys ≡ lent xs ++ placed x ∷ []
-lent-push xs ys x e = ap lent e ∙ map-append placed xs (x ∷ [])
+pub lent-push : (xs ys : List (Bor Placed)) (x : Bor Placed) → ys ≡ xs ++ x ∷ [] → lent ys ≡ lent xs ++ x.now ∷ []
+lent-push xs ys x e = ap lent e ∙ map-append (λ (y : Bor Placed). y.now) xs (x ∷ [])
 
-pub lent-length : (xs : List (Bor (List ℕ) × Place)) → length (lent xs) ≡ length xs
-lent-length xs = length-map xs placed
+pub lent-length : (xs : List (Bor Placed)) → length (lent xs) ≡ length xs
+lent-length xs = length-map xs (λ (y : Bor Placed). y.now)
 
 -- the one at a position
-pub lent-at : (xs : List (Bor (List ℕ) × Place)) (i : ℕ) (x : Bor (List ℕ) × Place) → i < length xs → x ≡ get_or xs i x → get_or (lent xs) i (placed x) ≡ placed x
-lent-at xs i x w e = get_or-map placed xs i x (placed x) w ∙ ap placed (sym e)
+pub lent-at : (xs : List (Bor Placed)) (i : ℕ) (x : Bor Placed) → i < length xs → x ≡ get_or xs i x → get_or (lent xs) i x.now ≡ x.now
+lent-at xs i x w e = get_or-map (λ (y : Bor Placed). y.now) xs i x x.now w ∙ ap (λ (y : Bor Placed). y.now) (sym e)

@@ -7,7 +7,7 @@ use Rattle.std.specs.Option.{option_or}
 use Rattle.std.specs.Str.{bytes_eq}
 use Rattle.algolw_tree.specs.Tree.{Placed}
 use Rattle.name_scopes.specs.Firsts.{first_of}
-use Rattle.name_scopes.specs.Marks.{Marked, mark_of}
+use Rattle.name_scopes.specs.Marks.{Marked, Unmarked, mark_of}
 use Rattle.name_scopes.proofs.Firsts.{first_of-push}
 
 -- a mark that isn't set was not set before one more was, and is another
@@ -39,3 +39,19 @@ marked_push xs x marks w m = record {
       let u = still_unset (nat_eq (mark_of q) (mark_of x.0)) marks (mark_of x.0) (mark_of q) refl w h in
       first_of-push xs x q ∙ none_added (bytes_eq x.0 q) (first_of xs q) (length xs) (other_mark (bytes_eq x.0 q) x.0 q refl u.0) (m.unset q u.1);
 }
+
+-- a number that another isn't
+other_number : (a b m : ℕ) → a ≡ m → nat_eq b m ≡ false → nat_eq a b ≡ false
+other_number a b m at other = grind (arith, nat_tests)
+
+-- a name that hasn't a mark is none that has it
+pub unlike : (x q : List ℕ) (mark : ℕ) → nat_eq (mark_of x) mark ≡ false → mark_of q ≡ mark → bytes_eq x q ≡ false
+unlike x q mark other at = other_mark (bytes_eq x q) x q refl (other_number (mark_of q) (mark_of x) mark at other)
+
+none_alone : (same : Bool) → same ≡ false → (elim same as (λ b. Option ℕ) [ true ↦ Some 0 | false ↦ None ]) ≡ None
+none_alone true h = cc
+none_alone false h = refl
+
+-- a name alone, which is none that has a mark
+pub unmarked_alone : (x : Placed) (mark : ℕ) → ((q : List ℕ) → mark_of q ≡ mark → bytes_eq x.0 q ≡ false) → Unmarked (x ∷ []) mark
+unmarked_alone x mark other = record { none = λ q at. none_alone (bytes_eq x.0 q) (other q at) }

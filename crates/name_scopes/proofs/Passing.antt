@@ -1,23 +1,23 @@
 -- Scopes that are passed over along a path.
 use Rattle.std.proofs.Common.{◌≡◌, ℕ, ◌<◌, List, Option, Some, None, get_or, sym, ap, ◌∙◌}
 use denote.Ref.{Bor}
-use Rattle.algolw_tree.specs.Tree.{Placed}
 use Rattle.algolw_typing.specs.Names.{declared, in_scope}
 use Rattle.algolw_typing.specs.Naming.{NamePath, scope_of}
 use Rattle.name_scopes.specs.Marks.{mark_of}
 use Rattle.name_scopes.specs.Nearest.{kept_or}
-use Rattle.name_scopes.specs.Paths.{IsPath, behind, path_of}
+use Rattle.name_scopes.specs.Paths.{IsPath, behind, names_of, path_of}
 use Rattle.name_scopes.specs.Standards.{standard_path}
+use Rattle.name_scopes.specs.declared.innermost.Innermost.{Innermost}
 use Rattle.name_scopes.proofs.Looking.{passed_over}
 
 -- a name that the innermost scope doesn't declare is looked for where its mark says
-pub looked_for : (scopes : Option (Bor (List Placed) × Bor NamePath)) (nearest : List (Option (Bor NamePath))) (path : NamePath) (own : Bor (List Placed)) (outer : Bor NamePath) (o : Option (Bor NamePath)) (x : List ℕ)
-    → IsPath scopes nearest → path_of scopes ≡ path → scopes ≡ Some (own, outer) → in_scope (scope_of own.now) x ≡ None → get_or nearest (mark_of x) None ≡ o → mark_of x < 64
+pub looked_for : (scopes : Option (Innermost × Bor NamePath)) (nearest : List (Option (Bor NamePath))) (path : NamePath) (own : Innermost) (outer : Bor NamePath) (o : Option (Bor NamePath)) (x : List ℕ)
+    → IsPath scopes nearest → path_of scopes ≡ path → scopes ≡ Some (own, outer) → in_scope (scope_of (names_of own)) x ≡ None → get_or nearest (mark_of x) None ≡ o → mark_of x < 64
     → declared (kept_or standard_path o) x ≡ declared path x
 looked_for scopes nearest path own outer o x held view is none kept within =
     ap (λ k. declared (kept_or standard_path k) x) (sym kept)
     ∙ held.alike x within
     ∙ ap (λ s. declared (behind s) x) is
-    ∙ sym (passed_over (scope_of own.now) outer.now x none)
+    ∙ sym (passed_over (scope_of (names_of own)) outer.now x none)
     ∙ sym (ap (λ s. declared (path_of s) x) is)
     ∙ ap (λ (p : NamePath). declared p x) view

@@ -4,16 +4,11 @@ use Rattle.std.specs.Option.{option_map}
 use Rattle.std.specs.Prelude.{◌≡◌, ℕ, suc, List, [], ◌∷◌, Option, Some, None, true, false, map}
 use denote.Ref.{Bor}
 use Rattle.std.specs.Str.{bytes_eq}
-use Rattle.value_ops.specs.declared.places.Place.{Place}
 use Rattle.algolw_tree.specs.Tree.{Placed}
 
--- a name that stands elsewhere
-abbrev pub placed : Bor (List ℕ) × Place → Placed
-placed x = (x.0.now, x.1)
-
--- names that do
-abbrev pub lent : List (Bor (List ℕ) × Place) → List Placed
-lent xs = map placed xs
+-- names that stand elsewhere
+abbrev pub lent : List (Bor Placed) → List Placed
+lent xs = map (λ (x : Bor Placed). x.now) xs
 
 -- where among names that are placed the first of this name stands
 abbrev pub first_of : List Placed → List ℕ → Option ℕ

@@ -1,5 +1,8 @@
-ghost use Rattle.std.specs.Prelude.{◌≡◌, ◌<◌};
+ghost use Rattle.std.specs.Prelude.{◌≡◌, ℕ, ◌<◌, List, false};
+ghost use Rattle.std.specs.Str.{bytes_eq};
 ghost use Rattle.name_scopes.specs.Marks.{mark_of};
+
+use algolw_tree::Spelling;
 
 /// How many marks there are.
 pub const MARKS: usize = 64;
@@ -30,4 +33,11 @@ pub fn mark_of(name: &[u8]) -> usize
     let last = name.last().copied().unwrap_or(0);
     let ends = 4 * usize::from(first) + usize::from(last);
     (ends + 10 * usize::from(middle) + 16 * (name.len() % 4)) % MARKS
+}
+
+/// Whether a name has this mark, as each name that is equal to it has.
+pub fn is_marked(name: &Spelling, mark: usize) -> bool
+    ensures { result ≡ false → (x : List ℕ) → mark_of x ≡ mark → bytes_eq name.now x ≡ false }
+{
+    mark_of(name.as_slice()) == mark
 }

@@ -3,8 +3,10 @@ ghost use Rattle.algolw_typing.specs.Names.{declared};
 ghost use Rattle.algolw_typing.specs.Naming.{place_of, scope_of};
 ghost use Rattle.name_scopes.specs.Marks.{mark_of};
 ghost use Rattle.name_scopes.specs.Nearest.{Nearest, kept_or};
+ghost use Rattle.name_scopes.specs.Paths.{names_of};
 ghost use Rattle.name_scopes.specs.Standards.{standard_path};
 
+use crate::innermost::Innermost;
 use crate::marks::{EachMark, MARKS, mark_of};
 use crate::scope::Scope;
 use crate::standard::standard_place;
@@ -16,9 +18,9 @@ use value_ops::Place;
 /// each program.
 #[derive(Drop)]
 pub struct ScopePath<'s, 't> {
-    /// The innermost scope and those around it, where there is more than the standard names.
-    scopes: Option<(&'s Scope<'t>, &'s ScopePath<'s, 't>)>,
-    /// For each mark where a name with it is looked for behind the innermost scope: from the nearest scope on that has the
+    /// What stands innermost and the scopes around it, where there is more than the standard names.
+    scopes: Option<(Innermost<'s, 't>, &'s ScopePath<'s, 't>)>,
+    /// For each mark where a name with it is looked for behind what stands innermost: from the nearest scope on that has the
     /// mark, or among the standard names alone.
     nearest: EachMark<Option<&'s ScopePath<'s, 't>>>,
 }
@@ -57,6 +59,24 @@ impl<'s, 't> ScopePath<'s, 't> {
     /// A scope, and those around it.
     pub fn inner(own: &'s Scope<'t>, outer: &'s ScopePath<'s, 't>) -> ScopePath<'s, 't>
         ensures { result ≡ scope_of own.now ∷ outer.now }
+    {
+        ScopePath::linked(Innermost::Names(own), outer)
+    }
+
+    /// The control name of a FOR, which is declared at this place, and the scopes around it.
+    pub fn control(
+        name: &'t Spelling,
+        place: Place,
+        outer: &'s ScopePath<'s, 't>,
+    ) -> ScopePath<'s, 't>
+        ensures { result ≡ scope_of ((name.now, place) ∷ []) ∷ outer.now }
+    {
+        ScopePath::linked(Innermost::Control(name, place), outer)
+    }
+
+    /// What stands innermost, and the scopes around it.
+    fn linked(own: Innermost<'s, 't>, outer: &'s ScopePath<'s, 't>) -> ScopePath<'s, 't>
+        ensures { result ≡ scope_of (names_of own.entry) ∷ outer.now }
     {
         let nearest = outer.nearest();
         ScopePath {

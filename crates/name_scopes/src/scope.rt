@@ -2,7 +2,7 @@ ghost use Rattle.std.specs.Prelude.{◌≡◌, ◌<◌, ◌∷◌, [], ◌++◌,
 ghost use Rattle.std.specs.Option.{is_some};
 ghost use Rattle.algolw_typing.specs.Names.{in_scope};
 ghost use Rattle.algolw_typing.specs.Naming.{scope_of, place_of};
-ghost use Rattle.name_scopes.specs.Firsts.{first_of, lent, placed};
+ghost use Rattle.name_scopes.specs.Firsts.{first_of, lent};
 ghost use Rattle.name_scopes.specs.Marks.{mark_of, Unmarked};
 
 use crate::key::Key;
@@ -13,10 +13,11 @@ use std::collections::HashMap;
 use std::marker::Model;
 use value_ops::Place;
 
-/// The names that a scope declares, in the order of their declarations. They stand in the program's text as it was read.
+/// The names that a scope declares, in the order of their declarations. Each stands beside its place in the program as it
+/// was read.
 #[derive(Drop)]
 pub struct Scope<'t> {
-    names: Vec<(&'t Spelling, Place)>,
+    names: Vec<&'t (Spelling, Place)>,
     /// Where among the names each stands first.
     first: HashMap<Key<'t>, u32>,
     /// Which marks they have.
@@ -49,15 +50,16 @@ impl<'t> Scope<'t> {
         }
     }
 
-    /// Declares a name at a place.
-    pub fn declare(&mut self, name: &'t Spelling, place: Place) -> Result<(), AllocError>
-        ensures added { OnOk result (self.new ≡ self.old ++ (name.now, place) ∷ []) }
+    /// Declares a name at its place.
+    pub fn declare(&mut self, declared: &'t (Spelling, Place)) -> Result<(), AllocError>
+        ensures added { OnOk result (self.new ≡ self.old ++ declared.now ∷ []) }
         ensures unchanged { OnErr result (self.new ≡ self.old) }
     {
         let Ok(position) = u32::try_from(self.names.len()) else {
             return Err(AllocError);
         };
-        self.names.push((name, place))?;
+        self.names.push(declared)?;
+        let (name, _) = declared;
         let Ok(first) = self.first.entry(Key::new(name)) else {
             self.names.pop();
             return Err(AllocError);
@@ -68,16 +70,16 @@ impl<'t> Scope<'t> {
     }
 
     /// What it declares.
-    pub fn names(&self) -> &[(&'t Spelling, Place)]
+    pub fn names(&self) -> &[&'t (Spelling, Place)]
         ensures { lent result.now ≡ self.now }
     {
         self.names.as_slice()
     }
 
-    /// The name at a position.
-    pub fn name_at(&self, position: usize) -> (&'t Spelling, Place)
+    /// The name at a position, and its place.
+    pub fn name_at(&self, position: usize) -> &'t (Spelling, Place)
         requires { position < length self.now }
-        ensures { placed result ≡ slice_index_or self.now position (placed result) }
+        ensures { result.now ≡ slice_index_or self.now position result.now }
     {
         self.names[position]
     }
@@ -135,7 +137,7 @@ impl<'t> Scope<'t> {
             None => None,
             Some(position) => {
                 let (_, place) = self.name_at(position as usize);
-                Some(place)
+                Some(*place)
             }
         }
     }

@@ -1,6 +1,5 @@
 -- What is found of an assignment, and of the value of one, which isn't counted where it is an assignment itself.
-use Rattle.std.proofs.Common.{◌≡◌, [], ◌∷◌, ◌++◌, List, Option, None, false, map, refl, sym, ap, subst, ◌∙◌, append-nil}
-use Rattle.value_ops.specs.declared.places.Diagnostic.{Diagnostic}
+use Rattle.std.proofs.Common.{◌≡◌, [], ◌∷◌, ◌++◌, List, Option, None, false, refl, sym, ap, subst, ◌∙◌, append-nil}
 use Rattle.value_ops.specs.declared.places.Place.{Place}
 use Rattle.algolw_tree.specs.Tree as tree
 use Rattle.algolw_typing.specs.Scopes.{Scopes}
@@ -8,10 +7,10 @@ use Rattle.algolw_typing.specs.Typed as typed
 use Rattle.algolw_typing.specs.Types.{Gives}
 use Rattle.algolw_typing.specs.Typing.{Left, Out, assign_row, faults, gives, left_of, right_end, typed_kind, typed_phrase, uncounted}
 use Rattle.algolw_typing.specs.Verdicts.{Verdict, fault_of, part, two_parts, type_of}
-use Rattle.typed_findings.specs.Findings.{Found, Phrase, finding_view, found_of, found_of_kind, own_finding}
+use Rattle.typed_findings.specs.Findings.{Found, Phrase, finding_view, found_of, found_of_kind}
 use Rattle.typed_findings.specs.declared.finding.Finding.{Finding}
 use Rattle.typed_findings.specs.declared.findings.Log.{Log}
-use Rattle.phrase_checker.specs.Checked.{Adds, AssignmentChecked, Checked, Noted, ValueChecked}
+use Rattle.phrase_checker.specs.Checked.{Adds, AssignmentChecked, Noted, ValueChecked}
 use Rattle.phrase_checker.proofs.Growth.{as_well, behind, one_more}
 use Rattle.phrase_checker.proofs.OtherKinds.{is_assignment}
 

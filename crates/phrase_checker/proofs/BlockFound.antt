@@ -1,5 +1,5 @@
 -- What is found of blocks, of procedures and of items.
-use Rattle.std.proofs.Common.{◌≡◌, ℕ, Bool, true, false, List, [], ◌∷◌, ◌++◌, Option, map, refl, sym, ap, subst, ◌∙◌, append_assoc, append-nil}
+use Rattle.std.proofs.Common.{◌≡◌, ℕ, Bool, List, [], ◌∷◌, ◌++◌, Option, map, refl, sym, ap, subst, ◌∙◌, append_assoc, append-nil}
 use Rattle.std.specs.Option.{option_map}
 use Rattle.std.specs.Prelude.{Result, Ok, Err, IfOk}
 use Rattle.std.specs.declared.alloc.Global.{Global}
@@ -13,11 +13,11 @@ use Rattle.algolw_tree.specs.declared.phrases.Bound.{Bound}
 use Rattle.algolw_tree.specs.declared.phrases.Decl.{Decl, Array}
 use Rattle.algolw_tree.specs.declared.phrases.TypeSpec.{TypeSpec}
 use Rattle.algolw_typing.specs.Names.{Scope}
-use Rattle.algolw_typing.specs.Rows.{bound_row, item_row}
+use Rattle.algolw_typing.specs.Rows.{bound_row}
 use Rattle.algolw_typing.specs.Scopes.{Known, Scopes, result_faults, result_type, formal_faults, formal_scope, names_of_block, label_entries, twice}
 use Rattle.algolw_typing.specs.Types.{Statement, ValueType}
-use Rattle.algolw_typing.specs.Typing.{Out, faults, first_token, gives, has_labels, BoundsOut, DeclsOut, ItemsOut, typed_bounds, typed_kind, typed_phrase, typed_decls, typed_items, meanings, typed_decl, typed_formals, procedure_verdict}
-use Rattle.algolw_typing.specs.Verdicts.{Verdict, Good, fault_of, part, two_parts, type_of}
+use Rattle.algolw_typing.specs.Typing.{Out, faults, gives, BoundsOut, DeclsOut, ItemsOut, typed_bounds, typed_kind, typed_phrase, typed_decls, typed_items, meanings, typed_decl, typed_formals, procedure_verdict}
+use Rattle.algolw_typing.specs.Verdicts.{Verdict, Good, fault_of, two_parts, type_of}
 use Rattle.typing_rules.specs.View as view
 use Rattle.declared_names.proofs.Bounding.{bounds_kept}
 use Rattle.declared_names.specs.Blocks.{DeclFound, bounds_view, decl_bounds}
@@ -26,8 +26,8 @@ use Rattle.declared_names.specs.Heads.{no_faults, IsHead, verdict_of}
 use Rattle.declared_names.specs.declared.procedures.Head.{Head}
 use Rattle.typed_findings.specs.Findings.{Found, as_type, finding_view, formals_found, found_of, found_of_bounds, found_of_decls, found_of_items}
 use Rattle.typed_findings.specs.declared.findings.Log.{Log}
-use Rattle.phrase_checker.specs.Checked.{Adds, BoundChecked, BoundsChecked, Checked, DeclsChecked, EndChecked, ItemChecked, ItemsChecked, Noted, PairChecked}
-use Rattle.phrase_checker.proofs.Growth.{as_well, behind, four_behind, nothing, seen, three_behind}
+use Rattle.phrase_checker.specs.Checked.{Adds, BoundChecked, BoundsChecked, Checked, DeclsChecked, ItemsChecked, Noted, PairChecked}
+use Rattle.phrase_checker.proofs.Growth.{as_well, four_behind, seen, three_behind}
 
 -- ---- blocks
 

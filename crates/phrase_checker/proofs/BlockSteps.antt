@@ -1,5 +1,5 @@
 -- Blocks: the turns of the loops over bounds, declarations and items.
-use Rattle.std.proofs.Common.{◌≡◌, ℕ, zero, suc, ◌+◌, ◌<◌, ◌≤◌, Bool, true, false, nat_eq, List, [], ◌∷◌, ◌++◌, length, get_or, drop, map, refl, sym, ap, subst, ◌∙◌, append_assoc, append-nil, arith}
+use Rattle.std.proofs.Common.{◌≡◌, ℕ, zero, suc, ◌+◌, ◌<◌, ◌≤◌, Bool, nat_eq, List, [], ◌∷◌, ◌++◌, length, get_or, drop, map, refl, sym, ap, subst, ◌∙◌, append_assoc, arith}
 use Rattle.std.proofs.lemmas.List.{drop_all, map-append}
 use Rattle.std.proofs.lemmas.Bool.{eq-eqb, ne_eqb}
 use Rattle.value_ops.specs.declared.places.Diagnostic.{Diagnostic}
@@ -7,16 +7,15 @@ use Rattle.value_ops.specs.declared.places.Place.{Place}
 use Rattle.algolw_tree.specs.declared.phrases.Bound.{Bound}
 use Rattle.algolw_tree.specs.declared.phrases.Decl.{Decl}
 use Rattle.algolw_tree.specs.declared.phrases.Item.{Item}
-use Rattle.algolw_tree.specs.declared.phrases.Labelled.{Labelled, Labelled', out-Labelled}
+use Rattle.algolw_tree.specs.declared.phrases.Labelled.{Labelled}
 use Rattle.algolw_tree.specs.Grammar.{bounds_of, decls_of, items_of}
 use Rattle.algolw_tree.specs.Tree as tree
-use Rattle.algolw_tree.specs.View.{tree as phrase_tree, bound_tree, decl_tree, item_tree, labelled_tree}
+use Rattle.algolw_tree.specs.View.{tree as phrase_tree, bound_tree, decl_tree, item_tree}
 use Rattle.algolw_tree.proofs.Sizes.{size, size_items}
 use Rattle.algolw_typing.specs.Rows.{bound_row}
 use Rattle.algolw_typing.specs.Names.{Scope}
 use Rattle.algolw_typing.specs.Scopes.{Known, Scopes}
-use Rattle.algolw_typing.specs.Typed as typed
-use Rattle.algolw_typing.specs.Typing.{Out, faults, gives, bound_out, BoundsOut, decl_out, DeclOut, DeclsOut, empty_out, no_more_bounds, no_more_decls, no_more_items, meanings, meanings_of, item_out, ItemsOut, first_token, has_labels, is_last, then_item, typed_phrase, typed_bounds, typed_decl, typed_decls, typed_items}
+use Rattle.algolw_typing.specs.Typing.{Out, faults, gives, bound_out, BoundsOut, decl_out, DeclOut, DeclsOut, no_more_bounds, no_more_decls, no_more_items, meanings, meanings_of, item_out, ItemsOut, first_token, has_labels, is_last, then_item, typed_phrase, typed_bounds, typed_decl, typed_decls, typed_items}
 use Rattle.algolw_typing.specs.Types.{Statement}
 use Rattle.algolw_typing.specs.Verdicts.{Verdict, Good, fault_of, two_parts}
 use Rattle.typed_findings.specs.Findings.{found_of, found_of_bounds, found_of_decl, found_of_decls, found_of_items}

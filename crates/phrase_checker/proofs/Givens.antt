@@ -1,18 +1,17 @@
 -- Names, the lists behind them, and the parts of a list: what is found of them.
-use Rattle.std.proofs.Common.{◌≡◌, ℕ, ℤ, List, [], ◌∷◌, ◌++◌, Option, map, refl, sym, ap, subst, ◌∙◌, append-nil}
+use Rattle.std.proofs.Common.{◌≡◌, ℕ, List, [], ◌∷◌, ◌++◌, Option, map, refl, sym, ap, subst, ◌∙◌, append-nil}
 use Rattle.std.specs.Option.{option_map}
-use Rattle.value_ops.specs.declared.places.Diagnostic.{Diagnostic}
 use Rattle.value_ops.specs.declared.places.Place.{Place}
 use Rattle.algolw_tree.specs.Grammar.{actuals_of}
 use Rattle.algolw_tree.specs.Tree as tree
 use Rattle.algolw_tree.specs.View.{actual_tree}
 use Rattle.algolw_typing.specs.Actuals.{Reading, Wanted}
-use Rattle.algolw_typing.specs.Meanings.{Meaning, Part, a_star}
+use Rattle.algolw_typing.specs.Meanings.{Meaning, Part}
 use Rattle.algolw_typing.specs.Names.{Entry, declared}
 use Rattle.algolw_typing.specs.Scopes.{Known, Scopes}
 use Rattle.algolw_typing.specs.Typed as typed
-use Rattle.algolw_typing.specs.Typing.{ListsOut, Out, PartOut, PartsOut, given, gives, faults, first_list, list_given, meaning_of, named_out, reading_of, target, typed_kind, typed_parts, typed_phrase, use_with_list}
-use Rattle.algolw_typing.specs.Verdicts.{Verdict, fault_of, type_of}
+use Rattle.algolw_typing.specs.Typing.{ListsOut, Out, PartOut, PartsOut, given, faults, first_list, list_given, meaning_of, named_out, reading_of, target, typed_kind, typed_parts, typed_phrase, use_with_list}
+use Rattle.algolw_typing.specs.Verdicts.{Verdict, fault_of}
 use Rattle.typing_rules.specs.MeaningView as meaning_view
 use Rattle.typing_rules.specs.View as view
 use Rattle.typed_findings.specs.Findings.{Found, Name, found_of, found_of_actuals, found_of_kind, found_of_lists}
@@ -20,12 +19,12 @@ use Rattle.typed_findings.specs.declared.findings.Log.{Log}
 use Rattle.typed_findings.specs.declared.finding.Finding.TheVariants as finding
 use Rattle.declared_names.specs.KnownView.{entry_of}
 use Rattle.typed_phrases.specs.Applications.{Applies}
-use Rattle.typed_phrases.specs.Fronts.{ActualOut, Front, ListOut, a_name, actual_step, front_list, front_lists, front_part, front_reading, list_step}
-use Rattle.typed_phrases.specs.Readings.{ListReads, Reads, plain, with_verdict}
+use Rattle.typed_phrases.specs.Fronts.{Front, a_name, actual_step, front_list, front_lists, front_reading, list_step}
+use Rattle.typed_phrases.specs.Readings.{ListReads, Reads, plain}
 use Rattle.typed_phrases.specs.declared.actuals.Application.{Application}
 use Rattle.typed_phrases.specs.declared.actuals.Given.{Given}
-use Rattle.phrase_checker.specs.Checked.{ActualChecked, Adds, ApplicationChecked, Checked, GivenChecked, ListChecked, Noted, PartsChecked, found_itself}
-use Rattle.phrase_checker.proofs.Growth.{as_well, behind, nothing, one_more}
+use Rattle.phrase_checker.specs.Checked.{ActualChecked, Adds, ApplicationChecked, Checked, GivenChecked, ListChecked, PartsChecked, found_itself}
+use Rattle.phrase_checker.proofs.Growth.{as_well, behind, one_more}
 use Rattle.phrase_checker.proofs.ListSteps.{ListsDone}
 use Rattle.phrase_checker.proofs.PlainParts.{parts_plain}
 use Rattle.phrase_checker.proofs.Wholes.{found_with}

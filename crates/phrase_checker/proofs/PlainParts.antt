@@ -2,13 +2,13 @@
 use Rattle.std.proofs.Common.{◌≡◌, ℕ, Bool, true, false, List, [], ◌∷◌, Option, Some, None, map, refl, sym, ap, ◌∙◌}
 use Rattle.value_ops.specs.declared.places.Place.{Place}
 use Rattle.algolw_tree.specs.Tree as tree
-use Rattle.algolw_typing.specs.Actuals.{Reading, Wanted, phrase_wanted, formal_wanted, none_wanted, any_wanted, behind, formal_name, is_subarray, is_variable_name, name_read, phrase_part, procedure_name, subarray_part, subarray_row, wanted, wants_procedure}
-use Rattle.algolw_typing.specs.Meanings.{FormalType, Meaning, a_variable, an_array, a_procedure, a_procedure_formal, a_class, a_field, a_label, a_control, a_standard, Part, a_star, a_phrase, typeless, as_procedure, with_formals, alone_row, gives_of}
+use Rattle.algolw_typing.specs.Actuals.{Reading, Wanted, phrase_wanted, formal_wanted, none_wanted, any_wanted, behind, is_subarray, is_variable_name, name_read, phrase_part, procedure_name, subarray_row, wanted, wants_procedure}
+use Rattle.algolw_typing.specs.Meanings.{FormalType, Meaning, a_variable, an_array, a_procedure, a_procedure_formal, a_class, a_field, a_label, a_control, a_standard, Part, a_star, typeless, alone_row, gives_of}
 use Rattle.algolw_typing.specs.Names.{Entry, declared}
 use Rattle.algolw_typing.specs.Scopes.{Known, Scopes}
 use Rattle.algolw_typing.specs.Typed as typed
 use Rattle.algolw_typing.specs.Types.{Gives, ValueType}
-use Rattle.algolw_typing.specs.Typing.{Out, PartOut, array_given, given, gives, list_given, listed, meaning_of, name_given, named_out, part_of_node, parts_of_actuals, parts_of_kind, phrase_given, read_as, subarray_given, typed_parts, typed_phrase, use_alone, variable_name}
+use Rattle.algolw_typing.specs.Typing.{Out, PartOut, array_given, given, gives, list_given, meaning_of, name_given, part_of_node, parts_of_actuals, parts_of_kind, phrase_given, read_as, subarray_given, typed_parts, typed_phrase, use_alone, variable_name}
 use Rattle.algolw_typing.specs.Verdicts.{Verdict, Good, Fault, Silent, type_of}
 use Rattle.typed_phrases.specs.Readings.{plain}
 

@@ -2,21 +2,18 @@
 use Rattle.std.proofs.Common.{◌≡◌, ℕ, List, [], ◌∷◌, ◌++◌, Option, Some, None, refl, sym, ap, subst, ◌∙◌, append-nil}
 use Rattle.std.proofs.lemmas.Result.{IfOk-weaker}
 use Rattle.std.specs.Option.{option_map}
-use Rattle.std.specs.declared.alloc.Global.{Global}
-use Rattle.std.specs.declared.boxed.Box.{Box}
 use Rattle.std.specs.Prelude.{Result, IfOk}
 use Rattle.value_ops.specs.declared.places.Place.{Place}
 use Rattle.algolw_tree.specs.Tree as tree
-use Rattle.algolw_tree.specs.View.{optional_tree, part_tree, tree as tree_of}
+use Rattle.algolw_tree.specs.View.{part_tree}
 use Rattle.algolw_tree.specs.declared.phrases.Part as part_in
 use Rattle.algolw_tree.specs.declared.phrases.Part.{Part}
 use Rattle.algolw_tree.specs.declared.phrases.Phrase.{Phrase}
 use Rattle.algolw_tree.specs.declared.phrases.RelOp.{RelOp}
 use Rattle.algolw_typing.specs.Names.{Entry, declared}
-use Rattle.algolw_typing.specs.Rows.{case_do_row, case_value_row, for_row, if_else_row, if_row, is_row, relation_row, while_row}
+use Rattle.algolw_typing.specs.Rows.{case_do_row, case_value_row, for_row, is_row, relation_row, while_row}
 use Rattle.algolw_typing.specs.Scopes.{Known, Scopes, class_fault, control_scope}
 use Rattle.algolw_typing.specs.Types.{Gives, Statement}
-use Rattle.algolw_typing.specs.Typed as typed
 use Rattle.algolw_typing.specs.Typing.{Out, PhrasesOut, LinksOut, as_verdict, case_do_out, case_value_out, chain_out, class_stated, faults, for_list_out, gives, meaning_of, target, typed_kind, typed_links, typed_phrase}
 use Rattle.algolw_typing.specs.Verdicts.{Verdict, Good, all_parts, part, two_parts, type_of}
 use Rattle.typing_rules.specs.View as view

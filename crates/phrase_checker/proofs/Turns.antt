@@ -1,5 +1,5 @@
 -- The turns of loops over parts, which find the whole part by part.
-use Rattle.std.proofs.Common.{◌≡◌, ℕ, ◌+◌, ◌<◌, ◌≤◌, List, [], ◌∷◌, ◌++◌, Option, Some, None, length, get_or, drop, map, refl, sym, ap, ◌∙◌, append-nil}
+use Rattle.std.proofs.Common.{◌≡◌, ℕ, ◌+◌, ◌<◌, ◌≤◌, List, [], Option, Some, None, length, get_or, drop, map, refl, sym, ap, ◌∙◌, append-nil}
 use Rattle.std.proofs.lemmas.List.{drop_all}
 use Rattle.algolw_tree.specs.Grammar.{links_of, phrases_of}
 use Rattle.algolw_tree.specs.View.{tree, link_tree, part_tree}

@@ -19,8 +19,8 @@ use std::alloc::{AllocError, Global};
 use typed_findings::{Finding, Log};
 use typed_phrases::{
     Phrases, Prefix, Range, assigned_verdict, both_give, case_do_verdict, case_value_verdict,
-    control_scope, for_list_verdict, given, if_else_verdict, if_verdict, is_verdict, left_of,
-    linked, noted, prefixed_verdict, range_verdict, relation_verdict, while_verdict,
+    for_list_verdict, given, if_else_verdict, if_verdict, is_verdict, left_of, linked, noted,
+    prefixed_verdict, range_verdict, relation_verdict, while_verdict,
 };
 use typing_rules::{ClassSet, NoType, PhraseType, ValueType, Verdict};
 use value_ops::Place;
@@ -432,8 +432,7 @@ impl<'a> Checker<'a> {
         ensures { IfOk result (λ v. Noted self.old.log self.new.log (view.verdict v)
             (typed_phrase (scopes.control_scope place name.now ∷ path.now) (tree body.now))) }
     {
-        let scope = control_scope(self.alloc, name, place)?;
-        self.phrase(&KnownPath::inner(&scope, &*path), body)
+        self.phrase(&KnownPath::control(name, place, &*path), body)
     }
 
     /// Checks a FOR over a range.

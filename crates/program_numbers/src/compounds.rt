@@ -42,7 +42,6 @@ impl Numbering {
 
     /// A name and the lists behind it.
     #[cycle(nodes)]
-    #[tactic(auto, using(algolw_tree::proofs::Rows::listed_is))]
     pub fn listed(
         &self,
         table: &mut TableBuilder,
@@ -61,7 +60,6 @@ impl Numbering {
 
     /// A chain.
     #[cycle(nodes)]
-    #[tactic(auto, using(algolw_tree::proofs::Rows::chain_is))]
     pub fn chain(
         &self,
         table: &mut TableBuilder,
@@ -134,7 +132,6 @@ impl Numbering {
 
     /// An IF.
     #[cycle(nodes)]
-    #[tactic(auto, using(algolw_tree::proofs::Rows::conditional_is))]
     pub fn conditional(
         &self,
         table: &mut TableBuilder,
@@ -154,7 +151,6 @@ impl Numbering {
 
     /// A CASE with values to choose from.
     #[cycle(nodes)]
-    #[tactic(auto, using(algolw_tree::proofs::Rows::case_value_is))]
     pub fn case_value(
         &self,
         table: &mut TableBuilder,
@@ -191,7 +187,6 @@ impl Numbering {
 
     /// A FOR with a limit. Its control name is declared at the place at which it stands.
     #[cycle(nodes)]
-    #[tactic(auto, using(algolw_tree::proofs::Rows::for_step_is))]
     pub fn for_step(
         &self,
         table: &mut TableBuilder,
@@ -214,7 +209,6 @@ impl Numbering {
 
     /// A FOR with values. Its control name is declared at the place at which it stands.
     #[cycle(nodes)]
-    #[tactic(auto, using(algolw_tree::proofs::Rows::for_list_is))]
     pub fn for_list(
         &self,
         table: &mut TableBuilder,

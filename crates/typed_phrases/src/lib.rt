@@ -16,6 +16,6 @@ pub use designators::Front;
 pub use items::{has_labels, item_verdict, then_item};
 pub use operators::{Prefix, given, linked, noted, prefixed_verdict, relation_verdict};
 pub use statements::{
-    Phrases, Range, case_value_verdict, control_scope, for_list_verdict, goto_verdict,
-    if_else_verdict, if_verdict, is_verdict, range_verdict, while_verdict,
+    Phrases, Range, case_value_verdict, for_list_verdict, goto_verdict, if_else_verdict,
+    if_verdict, is_verdict, range_verdict, while_verdict,
 };

@@ -12,9 +12,8 @@ ghost use Rattle.typed_phrases.specs.Ranges.{range_given};
 ghost use Rattle.declared_names.specs.KnownView.{entry_of};
 
 use crate::operators::given;
-use algolw_tree::Spelling;
 use bumpalo::Bump;
-use declared_names::{Facts, Known, KnownScope};
+use declared_names::Known;
 use std::alloc::{AllocError, Global};
 use typing_rules::{
     Meaning, NoType, PhraseType, Verdict, case_value_row, for_row, if_else_row, if_row, is_row,
@@ -164,19 +163,6 @@ pub fn range_verdict<'a>(place: Place, range: Range<'a>, body: Verdict<'a>) -> V
         Some(Ok(step)) => for_row(place, &[start, step, limit], body),
         Some(Err(_)) => Err(NoType::Silent),
     }
-}
-
-/// What a FOR at a place declares round its body: its name.
-pub fn control_scope<'t, 'a>(
-    alloc: Global,
-    name: &'t Spelling,
-    place: Place,
-) -> Result<KnownScope<'t, 'a>, AllocError>
-    ensures { IfOk result (λ s. s ≡ scopes.control_scope place name.now) }
-{
-    let mut scope = KnownScope::new(alloc);
-    scope.declare(name, place, Facts::Control)?;
-    Ok(scope)
 }
 
 // ---- names of labels and classes

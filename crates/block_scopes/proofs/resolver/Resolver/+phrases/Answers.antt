@@ -1,4 +1,4 @@
-use Rattle.std.proofs.Common.{◌≡◌, ◌+◌, suc, List, [], ◌∷◌, map, refl, sym, ap, subst, ◌∙◌, rules}
+use Rattle.std.proofs.Common.{◌+◌, suc, List, [], ◌∷◌, map, refl, sym, ap, subst, ◌∙◌, rules}
 use Rattle.std.specs.Option.{option_map}
 use Rattle.algolw_tree.specs.Tree as Tree
 use Rattle.algolw_tree.specs.declared.phrases.Actual.{Actual}
@@ -9,7 +9,6 @@ use Rattle.algolw_tree.specs.declared.phrases.Item.{Item}
 use Rattle.algolw_tree.specs.declared.phrases.ProcDecl.{out-ProcDecl}
 use Rattle.algolw_tree.specs.declared.phrases.Listed.{out-Listed}
 use Rattle.algolw_tree.specs.declared.phrases.Chain.{out-Chain}
-use Rattle.algolw_tree.specs.declared.phrases.Conditional.{out-Conditional}
 use Rattle.algolw_tree.specs.declared.phrases.CaseValue.{out-CaseValue}
 use Rattle.algolw_tree.specs.declared.phrases.ForStep.{out-ForStep}
 use Rattle.algolw_tree.specs.declared.phrases.ForList.{out-ForList}
@@ -211,27 +210,25 @@ for_step-returns t c =
     let f = frame_view c.args.frame in
     let path = c.args.path.now in
     let own = out-ForStep c.args.turns.now in
-    let scope = c.in_ok-scope.scope in
-    let names : scope ≡ (own.name, c.args.place) ∷ [] = c.in_ok-scope.ensures in
+    let scope : List Tree.Placed = (own.name, c.args.place) ∷ [] in
     let head = adds_and _ _ _ _ _ c.in_ok-phrase.ensures (adds_and _ _ _ _ _ c.in_ok-perhaps.ensures c.in_ok-phrase-2.ensures) in
     by_tree _ _ f path c.args.place _ _ (for_step_is c.args.turns.now)
     (subst (λ n. Adds c.args.self.now c.phrase-3.new.self n)
-    (for_step_naming f path c.args.place own.name scope (tree own.start) (optional_tree own.step) (tree own.limit) (tree own.body) names)
-    (controlled_adds _ _ _ _ f (frame_view c.in_ok-inner.inner) path c.inner.result scope _ (tree own.body) c.in_ok-inner.ensures.adds c.in_ok-inner.ensures.inner
-    (range_inside _ _ _ _ path (tree own.start) (optional_tree own.step) (tree own.limit) c.in_ok-inner.ensures.inner head) c.inner.ensures c.in_ok-phrase-3.ensures))
+    (for_step_naming f path c.args.place own.name scope (tree own.start) (optional_tree own.step) (tree own.limit) (tree own.body) refl)
+    (controlled_adds _ _ _ _ f (frame_view c.in_ok-inner.inner) path c.control-own.result scope _ (tree own.body) c.in_ok-inner.ensures.adds c.in_ok-inner.ensures.inner
+    (range_inside _ _ _ _ path (tree own.start) (optional_tree own.step) (tree own.limit) c.in_ok-inner.ensures.inner head) c.control-own.ensures c.in_ok-phrase-3.ensures))
 
 pub for_list-returns : goal.for_list-returns
 for_list-returns t c =
     let f = frame_view c.args.frame in
     let path = c.args.path.now in
     let own = out-ForList c.args.turns.now in
-    let scope = c.in_ok-scope.scope in
-    let names : scope ≡ (own.name, c.args.place) ∷ [] = c.in_ok-scope.ensures in
+    let scope : List Tree.Placed = (own.name, c.args.place) ∷ [] in
     by_tree _ _ f path c.args.place _ _ (for_list_is c.args.turns.now ∙ ap (λ xs. Tree.ForList own.name (phrases_of (map tree xs)) (tree own.body)) (sym c.deref.ensures.value))
     (subst (λ n. Adds c.args.self.now c.phrase.new.self n)
-    (for_list_naming f path c.args.place own.name scope (phrases_of (map tree c.deref.result.now)) (tree own.body) names)
-    (controlled_adds _ _ _ _ f (frame_view c.in_ok-inner.inner) path c.inner.result scope _ (tree own.body) c.in_ok-inner.ensures.adds c.in_ok-inner.ensures.inner
-    (values_inside _ _ _ _ path (phrases_of (map tree c.deref.result.now)) c.in_ok-inner.ensures.inner c.in_ok-phrases.ensures) c.inner.ensures c.in_ok-phrase.ensures))
+    (for_list_naming f path c.args.place own.name scope (phrases_of (map tree c.deref.result.now)) (tree own.body) refl)
+    (controlled_adds _ _ _ _ f (frame_view c.in_ok-inner.inner) path c.control-own.result scope _ (tree own.body) c.in_ok-inner.ensures.adds c.in_ok-inner.ensures.inner
+    (values_inside _ _ _ _ path (phrases_of (map tree c.deref.result.now)) c.in_ok-inner.ensures.inner c.in_ok-phrases.ensures) c.control-own.ensures c.in_ok-phrase.ensures))
 
 pub phrase-applied-requires : goal.phrase-applied-requires
 phrase-applied-requires t c = search (rules, ap size_kind (applied_at _ c.in-Applied.applied _ c.in-Applied.is c.deref.ensures))

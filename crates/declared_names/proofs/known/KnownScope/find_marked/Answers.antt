@@ -3,7 +3,6 @@ use Rattle.algolw_tree.specs.Tree.{Placed}
 use Rattle.algolw_typing.specs.Names as names
 use Rattle.algolw_typing.specs.Names.{in_scope}
 use Rattle.algolw_typing.specs.Scopes as rules
-use Rattle.name_scopes.specs.Firsts.{placed}
 use Rattle.name_scopes.proofs.Firsts.{first_stands}
 use Rattle.declared_names.specs.KnownView.{entry_with, facts_view, known_view}
 use Rattle.declared_names.specs.declared.known.Facts.{Facts}
@@ -29,7 +28,7 @@ returns-in-Some c =
     let i = c.in-Some.position in
     let own = c.self.inside.names in
     let facts = c.self.inside.facts.items in
-    let x = placed c.name_at.result in
+    let x = c.name_at.result.now in
     let f = c.index-facts.result.now in
     let it = found own facts q i x f c.self.invariant.each (sym c.in-Some.ensures) in
     entry_is q c.known_at.result.place x.1 (known_view c.known_at.result) (facts_view f) c.known_at.ensures.place c.known_at.ensures.known

@@ -4,7 +4,6 @@ use Rattle.algolw_typing.specs.Names as names
 use Rattle.algolw_typing.specs.Naming.{scope_of}
 use Rattle.algolw_typing.specs.Scopes as scopes
 use Rattle.algolw_tree.specs.Tree.{Placed}
-use Rattle.name_scopes.specs.Firsts.{placed}
 use Rattle.declared_names.specs.KnownView.{entries_of}
 use Rattle.declared_names.specs.Seconds.{second_fault}
 use Rattle.declared_names.specs.declared.known.Facts.{Facts}
@@ -26,8 +25,8 @@ name_at-requires c = within c.self.inside.names c.self.inside.facts.items c.args
 
 pub returns-then-has_before : goal.returns-then-has_before
 returns-then-has_before c =
-    there c.self.inside.names c.self.inside.facts.items c.args.self.now c.args.position (placed c.name_at.result) true c.self.invariant.each c.self.view_is c.requires c.name_at.ensures (sym c.if-has_before.true ∙ c.has_before.ensures)
+    there c.self.inside.names c.self.inside.facts.items c.args.self.now c.args.position c.name_at.result.now true c.self.invariant.each c.self.view_is c.requires c.name_at.ensures (sym c.if-has_before.true ∙ c.has_before.ensures)
 
 pub returns-else-has_before : goal.returns-else-has_before
 returns-else-has_before c =
-    there c.self.inside.names c.self.inside.facts.items c.args.self.now c.args.position (placed c.name_at.result) false c.self.invariant.each c.self.view_is c.requires c.name_at.ensures (sym c.if-has_before.false ∙ c.has_before.ensures)
+    there c.self.inside.names c.self.inside.facts.items c.args.self.now c.args.position c.name_at.result.now false c.self.invariant.each c.self.view_is c.requires c.name_at.ensures (sym c.if-has_before.false ∙ c.has_before.ensures)

@@ -382,8 +382,7 @@ assignment-returns t c first = assigned c.args.path.now c.args.place first _ (tr
 
 pub controlled-returns : goal.controlled-returns
 controlled-returns t c =
-    let around : c.inner.result ≡ control_scope c.args.place c.args.name.now ∷ c.args.path.now = c.inner.ensures ∙ ap (λ (s : Scope Known). s ∷ c.args.path.now) c.in_ok-scope.ensures in
-    subst (λ (q : Scopes). IfOk c.phrase.result (λ v. Noted c.args.self.now.log c.phrase.new.self.log (view.verdict v) (typed_phrase q (tree_of c.args.body.now)))) around c.phrase.ensures
+    subst (λ (q : Scopes). IfOk c.phrase.result (λ v. Noted c.args.self.now.log c.phrase.new.self.log (view.verdict v) (typed_phrase q (tree_of c.args.body.now)))) c.control.ensures c.phrase.ensures
 
 pub for_range-returns : goal.for_range-returns
 for_range-returns t c first = range_checked c.args.path.now c.args.place first c.args.name.now c.args.self.now.log c.range.new.self.log c.controlled.new.self.log c.in_ok-range.range _ _ _ _ _ _ c.in_ok-range.ensures c.in_ok-body.ensures c.range_verdict.ensures

@@ -1,4 +1,4 @@
-use Rattle.std.proofs.Common.{◌≡◌, ℕ, ◌+◌, ◌*◌, ◌++◌, suc, drop, map}
+use Rattle.std.proofs.Common.{◌≡◌, ◌+◌, ◌*◌, ◌++◌, suc, drop, map}
 use Rattle.algolw_tree.specs.Grammar.{phrases_of, links_of, lists_of, actuals_of, items_of, bounds_of, decls_of}
 use Rattle.algolw_tree.specs.View.{tree, part_tree, link_tree, list_tree, actual_tree, item_tree, bound_tree, decl_tree, procedure_tree, optional_tree}
 use Rattle.algolw_tree.proofs.Sizes.{size, size_perhaps, size_phrases, size_links, size_lists, size_listing, size_actuals, size_actual, size_items, size_bounds, size_decls, size_decl}
