@@ -12,7 +12,8 @@ use Rattle.algolw_grammar.specs.Parsing.{parsed, answer_of}
 use Rattle.algolw_grammar.proofs.Verdict.{answered, names_token, names_deep}
 use Rattle.token_reader.specs.declared.stop.Stop.{Stop}
 use Rattle.token_reader.specs.declared.stop.Stop.TheVariants as stop
-use Rattle.token_reader.specs.Gives.{Fails, place_at}
+use Rattle.kept_tokens.specs.Kept.{place_at}
+use Rattle.token_reader.specs.Gives.{Fails}
 use Rattle.algolw_parser.specs.declared.parsing.Parsed.{Parsed}
 use Rattle.algolw_parser.specs.declared.parsing.Parsed.TheVariants as parsed
 use Rattle.algolw_parser.specs.Parsed.{Means, Reads}

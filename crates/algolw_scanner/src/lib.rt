@@ -5,8 +5,6 @@ mod cursor;
 mod laws;
 mod lexeme;
 mod scanning;
-#[cfg(test)]
-mod tests;
 mod words;
 
 pub use laws::{decks_are_scanned, faults_mean_it, faults_of_decks, one_reading, tokens_of_decks};

@@ -5,8 +5,6 @@ mod admission;
 mod event;
 mod job;
 mod laws;
-#[cfg(test)]
-mod tests;
 
 pub use admission::CoreState;
 pub use event::Event;

@@ -6,8 +6,6 @@ mod memory;
 mod outside;
 mod pacer;
 mod ports;
-#[cfg(test)]
-mod tests;
 
 pub use gate::{Gate, OpenGate};
 pub use memory::{MemSink, MemSource};

@@ -5,8 +5,6 @@ mod audit;
 mod decision;
 mod laws;
 mod lines;
-#[cfg(test)]
-mod tests;
 mod writing;
 
 pub use audit::Audit;

@@ -1,5 +1,3 @@
 pub mod Progressing
-pub mod Results
 pub mod Serving
 pub mod Summaries
-pub mod Takings

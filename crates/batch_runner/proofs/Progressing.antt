@@ -20,12 +20,13 @@ use Rattle.batch_listing.proofs.Sections.{sections_behind, sections_in_order}
 use Rattle.batch_listing.proofs.Written.{all_left, prefix_more, prefix_written}
 use Rattle.batch_io.specs.Causes.{Rose}
 use Rattle.batch_runner.specs.declared.clerk.Docket.{Docket}
-use Rattle.batch_runner.specs.declared.halt.Halt.{Halt}
-use Rattle.batch_runner.specs.declared.halt.Halt.TheVariants.{NoMemory, ReadFault, WriteFault, TooLarge}
-use Rattle.batch_runner.specs.declared.intake.Intake.{Intake}
-use Rattle.batch_runner.specs.Outcome.{Outside, IsTooLarge, HasCause, HasHalted}
+use Rattle.batch_intake.specs.declared.halt.Halt.{Halt}
+use Rattle.batch_intake.specs.declared.halt.Halt.TheVariants.{NoMemory, ReadFault, WriteFault, TooLarge}
+use Rattle.batch_intake.specs.declared.intake.Intake.{Intake}
+use Rattle.batch_runner.specs.Outcome.{Outside, HasCause, HasHalted}
+use Rattle.batch_intake.specs.Halts.{IsTooLarge}
 use Rattle.batch_runner.specs.Progress.{Progress, openings, HasWritten, Standing, StandsSince, GoesOn, IsOpened, IsServed, begun, progress}
-use Rattle.batch_runner.specs.Taking.{Knows, HasRead, StopCause, ReadsOn, StopsReading, StopsFront, jobs_by}
+use Rattle.batch_intake.specs.Taking.{Knows, HasRead, StopCause, ReadsOn, StopsReading, StopsFront, jobs_by}
 
 -- ---- the sections of a list of jobs that is cut
 

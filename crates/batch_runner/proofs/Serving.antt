@@ -13,9 +13,10 @@ use Rattle.batch_listing.specs.Tallies.{listing_tally, sections_tally}
 use Rattle.batch_listing.specs.Texts.{heading, closing}
 use Rattle.batch_listing.specs.Writing.{AppendsPrefix, WroteUpTo}
 use Rattle.batch_listing.proofs.Written.{all_written, piece_more, prefix_more, prefix_written}
-use Rattle.batch_runner.specs.declared.halt.Halt.{Halt}
-use Rattle.batch_runner.specs.declared.halt.Halt.TheVariants.{NoMemory, ReadFault, WriteFault, TooLarge}
-use Rattle.batch_runner.specs.Outcome.{Outside, IsCutShort, IsDone, IsTooLarge, HasCause}
+use Rattle.batch_intake.specs.declared.halt.Halt.{Halt}
+use Rattle.batch_intake.specs.declared.halt.Halt.TheVariants.{NoMemory, ReadFault, WriteFault, TooLarge}
+use Rattle.batch_runner.specs.Outcome.{Outside, IsCutShort, IsDone, HasCause}
+use Rattle.batch_intake.specs.Halts.{IsTooLarge}
 use Rattle.batch_runner.specs.Progress.{IsServed}
 use Rattle.batch_runner.proofs.Progressing.{closing_of}
 use Rattle.batch_runner.proofs.Summaries.{listing_bytes}

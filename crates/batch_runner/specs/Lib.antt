@@ -1,4 +1,3 @@
 pub mod Outcome
 pub mod Progress
 pub mod ProgressLaws
-pub mod Taking

@@ -1,18 +1,13 @@
 -- What a run has read and written, and why it stopped.
-use Rattle.std.specs.Prelude.{ℕ, ◌≡◌, ◌⊎◌, true, false, List, Option}
+use Rattle.std.specs.Prelude.{ℕ, ◌≡◌, false, List, Option}
 use Rattle.std.specs.Io.KnownBytes.{Consumes, Appends, IsAtEnd}
 use Rattle.batch_io.specs.Causes.{Rose}
-use Rattle.deck_reader.specs.declared.reader.FeedError.{FeedError}
-use Rattle.deck_reader.specs.declared.reader.FeedError.TheVariants as feed
-use Rattle.deck_reader.specs.Batch.{passes, too_large}
+use Rattle.deck_reader.specs.Batch.{too_large}
 use Rattle.batch_listing.specs.Listing.{listing}
 use Rattle.batch_listing.specs.Writing.{AppendsPrefix}
-use Rattle.batch_runner.specs.declared.halt.Halt.{Halt}
-use Rattle.batch_runner.specs.declared.halt.Halt.TheVariants.{NoMemory, ReadFault, WriteFault, TooLarge}
-
-abbrev pub halt_of : FeedError → Halt
-halt_of feed.TooLarge = TooLarge
-halt_of feed.NoMemory = NoMemory
+use Rattle.batch_intake.specs.declared.halt.Halt.{Halt}
+use Rattle.batch_intake.specs.Halts.{IsTooLarge}
+use Rattle.batch_intake.specs.declared.halt.Halt.TheVariants.{NoMemory, ReadFault, WriteFault, TooLarge}
 
 -- the whole source was read, it wasn't too large, and its listing was written whole
 pub record IsDone (left left' written written' : Option (List ℕ)) : Type 0 where
@@ -27,12 +22,6 @@ pub record IsCutShort (left left' written written' : Option (List ℕ)) : Type 0
   pub input : List ℕ
   pub read : Consumes left left' input
   pub wrote : AppendsPrefix written written' (listing input)
-
--- what was read passes a limit whatever comes behind it, or is the whole source and too large
-pub record IsTooLarge (left left' : Option (List ℕ)) : Type 0 where
-  pub input : List ℕ
-  pub read : Consumes left left' input
-  pub large : (passes input ≡ true) ⊎ (IsAtEnd left' × (too_large input ≡ true))
 
 -- what a source has left and a sink was given, as far as they tell, and how many faults each has met
 pub record Outside : Type 0 where

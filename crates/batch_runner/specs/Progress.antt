@@ -9,10 +9,10 @@ use Rattle.batch_listing.specs.Listing.{sections}
 use Rattle.batch_listing.specs.Tallies.{sections_tally}
 use Rattle.batch_listing.specs.Texts.{heading}
 use Rattle.batch_runner.specs.declared.clerk.Docket.{Docket}
-use Rattle.batch_runner.specs.declared.halt.Halt.{Halt}
-use Rattle.batch_runner.specs.declared.intake.Intake.{Intake}
+use Rattle.batch_intake.specs.declared.halt.Halt.{Halt}
+use Rattle.batch_intake.specs.declared.intake.Intake.{Intake}
 use Rattle.batch_runner.specs.Outcome.{Outside, HasHalted}
-use Rattle.batch_runner.specs.Taking.{HasRead, jobs_by}
+use Rattle.batch_intake.specs.Taking.{HasRead, jobs_by}
 
 -- what was read and written, what is known of the batch, the audit behind what it has made, of how many jobs the sections are written, and why
 -- no more are

@@ -1,9 +1,9 @@
 ghost use Rattle.std.specs.Prelude.{◌≡◌, ◌+◌, ◌<◌, ◌↔◌, false, None, Some, IfErr, OnOk, IsTrue, length};
+ghost use Rattle.batch_intake.specs.Taking.{reader_of};
 ghost use Rattle.batch_runner.specs.Outcome.{Outside, outside};
 ghost use Rattle.batch_runner.specs.Progress.{GoesOn, progress};
 
-use crate::halt::Halt;
-use crate::intake::Intake;
+use batch_intake::{Halt, Intake};
 use batch_io::{Gate, Sink, Source};
 use batch_listing::{Audit, write_all_of};
 use deck_reader::Job;
@@ -68,7 +68,7 @@ impl Docket {
 
     /// Whether jobs may still arrive.
     fn has_arrivals(&self) -> bool
-        ensures { result ≡ false → self.now.intake.reader ≡ None }
+        ensures { result ≡ false → reader_of self.now.intake ≡ None }
     {
         !self.closed || self.intake.is_open()
     }
@@ -283,6 +283,7 @@ impl<'s, 'k, S: Source, K: Sink> Clerk<'s, 'k, S, K, Docket> {
 impl<'s, 'k, B: QueueBrand, S: Source, K: Sink> Caller<B> for Clerk<'s, 'k, S, K, Docket> {
     ghost use Rattle.std.specs.Prelude.{◌≡◌, None};
     ghost use Rattle.std.proofs.Common.{refl, ◌∙◌};
+    ghost use Rattle.batch_intake.specs.Taking.{reader_of};
     ghost use Rattle.batch_runner.specs.Outcome.{outside};
     ghost use Rattle.batch_runner.specs.Progress.{GoesOn, progress};
     ghost use Rattle.batch_runner.specs.ProgressLaws.{goes_nowhere, goes_further};
@@ -291,7 +292,7 @@ impl<'s, 'k, B: QueueBrand, S: Source, K: Sink> Caller<B> for Clerk<'s, 'k, S, K
         (progress old.docket (outside (S.left old.src.now) (S.faults old.src.now) (K.written old.sink.now) (K.faults old.sink.now)))
         (progress new.docket (outside (S.left new.src.now) (S.faults new.src.now) (K.written new.sink.now) (K.faults new.sink.now))) };
 
-    ghost finished = { λ c. c.docket.halt ≡ None → c.docket.intake.reader ≡ None };
+    ghost finished = { λ c. c.docket.halt ≡ None → reader_of c.docket.intake ≡ None };
 
     ghost stays = { λ c. (refl, refl, goes_nowhere _) };
 

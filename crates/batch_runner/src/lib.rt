@@ -2,13 +2,10 @@
 #![tactic(auto)]
 
 mod clerk;
-mod halt;
-mod intake;
 mod listing;
 mod nowhere;
-mod reading;
 mod running;
 
-pub use halt::Halt;
+pub use batch_intake::Halt;
 pub use listing::{tally_listing, write_listing};
 pub use running::Staff;

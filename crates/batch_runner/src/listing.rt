@@ -2,17 +2,16 @@ ghost use Rattle.std.specs.Prelude.{◌≡◌, ◌≤◌, ◌+◌, true, None, I
 ghost use Rattle.batch_io.specs.Causes.{Rose};
 ghost use Rattle.deck_reader.specs.Batch.{batch, too_large};
 ghost use Rattle.batch_listing.specs.Tallies.{listing_tally};
-ghost use Rattle.batch_runner.specs.Outcome.{HasHalted, IsCutShort, IsDone, IsTooLarge, Outside, outside};
+ghost use Rattle.batch_runner.specs.Outcome.{HasHalted, IsCutShort, IsDone, Outside, outside};
+ghost use Rattle.batch_intake.specs.Halts.{IsTooLarge};
 ghost use Rattle.batch_runner.specs.Progress.{HasWritten, IsOpened, IsServed, begun};
-ghost use Rattle.batch_runner.specs.Taking.{StopsFront};
+ghost use Rattle.batch_intake.specs.Taking.{StopsFront, stray_of};
 
 use crate::clerk::{Clerk, Docket};
-use crate::halt::Halt;
-use crate::intake::Intake;
 use crate::nowhere::Nowhere;
-use crate::reading::{Front, read_front};
 use crate::running::{Staff, run_jobs};
 use account_book::Book;
+use batch_intake::{Front, Halt, Intake, read_front};
 use batch_io::{Gate, MemSource, Sink, Source};
 use batch_listing::{Audit, heading, write_all_of};
 use batch_summary::Tally;
@@ -171,7 +170,7 @@ fn serve<R: Threads + Wait + Sync, S: Source, K: Sink, G: Gate>(
     requires desks { 1 ≤ length desks.old }
     requires few { length desks.old ≤ 16 }
     ensures all { (start : Outside) → HasWritten start (begun (outside (S.left src.old) (S.faults src.old) (K.written sink.old) (K.faults sink.old)) intake audit) → result.halt ≡ None
-        → IsServed start (outside (S.left src.new) (S.faults src.new) (K.written sink.new) (K.faults sink.new)) result.audit result.intake.stray }
+        → IsServed start (outside (S.left src.new) (S.faults src.new) (K.written sink.new) (K.faults sink.new)) result.audit (stray_of result.intake) }
     ensures some { (start : Outside) → HasWritten start (begun (outside (S.left src.old) (S.faults src.old) (K.written sink.old) (K.faults sink.old)) intake audit)
         → IfSome result.halt (λ halt. HasHalted start (outside (S.left src.new) (S.faults src.new) (K.written sink.new) (K.faults sink.new)) halt) }
 {

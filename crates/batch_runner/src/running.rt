@@ -1,4 +1,5 @@
 ghost use Rattle.std.specs.Prelude.{◌≡◌, ◌≤◌, None, IfSome, length};
+ghost use Rattle.batch_intake.specs.Taking.{stray_of};
 ghost use Rattle.batch_runner.specs.Outcome.{HasHalted, Outside, outside};
 ghost use Rattle.batch_runner.specs.Progress.{GoesOn, HasWritten, IsServed, begun, progress};
 
@@ -75,7 +76,7 @@ pub(crate) fn run_jobs<
     requires none { clerk.docket.written ≡ 0 }
     ensures same_ports { (result.src.ghost_name ≡ clerk.entry.src.ghost_name) × (result.sink.ghost_name ≡ clerk.entry.sink.ghost_name) }
     ensures all { (start : Outside) → HasWritten start (begun (outside (S.left clerk.entry.src.now) (S.faults clerk.entry.src.now) (K.written clerk.entry.sink.now) (K.faults clerk.entry.sink.now)) clerk.entry.docket.intake clerk.entry.docket.audit)
-        → result.docket.halt ≡ None → IsServed start (outside (S.left result.src.now) (S.faults result.src.now) (K.written result.sink.now) (K.faults result.sink.now)) result.docket.audit result.docket.intake.stray }
+        → result.docket.halt ≡ None → IsServed start (outside (S.left result.src.now) (S.faults result.src.now) (K.written result.sink.now) (K.faults result.sink.now)) result.docket.audit (stray_of result.docket.intake) }
     ensures some { (start : Outside) → HasWritten start (begun (outside (S.left clerk.entry.src.now) (S.faults clerk.entry.src.now) (K.written clerk.entry.sink.now) (K.faults clerk.entry.sink.now)) clerk.entry.docket.intake clerk.entry.docket.audit)
         → IfSome result.docket.halt (λ halt. HasHalted start (outside (S.left result.src.now) (S.faults result.src.now) (K.written result.sink.now) (K.faults result.sink.now)) halt) }
 {

@@ -4,8 +4,6 @@
 mod laws;
 mod summary;
 mod tally;
-#[cfg(test)]
-mod tests;
 
 pub use laws::{bytes_of_sections, tally_by_sections};
 pub use summary::summary_of;

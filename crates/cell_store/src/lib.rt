@@ -8,8 +8,6 @@ mod entries;
 mod items;
 mod shelf;
 mod store;
-#[cfg(test)]
-mod tests;
 
 pub use cells::{Bounds, Closed, Part, Procedure, Variable, Wide, Word};
 pub use descriptor::Descriptor;

@@ -10,6 +10,7 @@ use crate::heads::{push_procedure, push_text};
 use crate::texts::{push_class, push_constant, push_name, push_place, push_source, push_type};
 use stack_code::{Code, Instr, Mode};
 use std::alloc::AllocError;
+use std::fmt::Debug;
 use value_ops::{ClassId, SimpleType};
 
 /// Writes an instruction, with what its numbers stand for. There `@k` is an instruction, `links.position` an entry,
@@ -28,9 +29,9 @@ pub(crate) fn push_instruction(out: &mut String, code: &Code, does: Instr) -> Re
         } => push_use(out, "Variable", mode, links, position),
         Instr::Push => out.push_str("Push"),
         Instr::Reserve => out.push_str("Reserve"),
-        Instr::Unary(op) => write!(out, "Unary {op:?}"),
-        Instr::Binary(op) => write!(out, "Binary {op:?}"),
-        Instr::Relation(op) => write!(out, "Relation {op:?}"),
+        Instr::Unary(op) => push_operator(out, "Unary ", &op),
+        Instr::Binary(op) => push_operator(out, "Binary ", &op),
+        Instr::Relation(op) => push_operator(out, "Relation ", &op),
         Instr::IsClass(class) => push_class(out, code, "IsClass ", class),
         Instr::Element {
             mode,
@@ -43,16 +44,16 @@ pub(crate) fn push_instruction(out: &mut String, code: &Code, does: Instr) -> Re
             class,
             position,
         } => push_field(out, code, mode, class, position),
-        Instr::Part { whole, count } => write!(out, "Part {count} of {whole}"),
+        Instr::Part { whole, count } => push_part(out, whole, count),
         Instr::Make(kind) => push_type(out, code, "Make ", kind),
         Instr::MakeRecord { class, count } => push_record(out, code, "MakeRecord", class, count),
         Instr::MakeRecordAlone { class, count } => {
             push_record(out, code, "MakeRecordAlone", class, count)
         }
         Instr::Begin => out.push_str("Begin"),
-        Instr::Jump(target) => write!(out, "Jump @{target}"),
-        Instr::JumpUnless(target) => write!(out, "JumpUnless @{target}"),
-        Instr::Choose(count) => write!(out, "Choose {count}"),
+        Instr::Jump(target) => push_number(out, "Jump @", target),
+        Instr::JumpUnless(target) => push_number(out, "JumpUnless @", target),
+        Instr::Choose(count) => push_number(out, "Choose ", count),
         Instr::Assign { kind, gives: true } => push_type(out, code, "Assign giving ", kind),
         Instr::Assign { kind, gives: false } => push_type(out, code, "Assign ", kind),
         Instr::Assert => out.push_str("Assert"),
@@ -66,19 +67,19 @@ pub(crate) fn push_instruction(out: &mut String, code: &Code, does: Instr) -> Re
             links,
             position,
             target,
-        } => write!(out, "Goto {links}.{position} @{target}"),
-        Instr::Again(target) => write!(out, "Again @{target}"),
-        Instr::FirstTurn(target) => write!(out, "FirstTurn @{target}"),
+        } => push_goto(out, links, position, target),
+        Instr::Again(target) => push_number(out, "Again @", target),
+        Instr::FirstTurn(target) => push_number(out, "FirstTurn @", target),
         Instr::Turn { name } => push_name(out, code, "Turn ", name),
-        Instr::NextTurn { target, position } => write!(out, "NextTurn @{target} 0.{position}"),
+        Instr::NextTurn { target, position } => push_next_turn(out, target, position),
         Instr::ListTurn { target, name } => push_list_turn(out, code, target, name),
-        Instr::EndTurn { position } => write!(out, "EndTurn 0.{position}"),
+        Instr::EndTurn { position } => push_number(out, "EndTurn 0.", position),
         Instr::EnterBlock(place) => push_place(out, "EnterBlock ", place),
         Instr::Declare { name } => push_name(out, code, "Declare ", name),
-        Instr::Bounds(count) => write!(out, "Bounds {count}"),
+        Instr::Bounds(count) => push_number(out, "Bounds ", count),
         Instr::DeclareArray { kind, name } => push_array_declared(out, code, kind, name),
         Instr::Declared => out.push_str("Declared"),
-        Instr::LeaveBlock { position } => write!(out, "LeaveBlock 0.{position}"),
+        Instr::LeaveBlock { position } => push_number(out, "LeaveBlock 0.", position),
         Instr::Procedure { head, behind } => push_procedure(out, code, head, behind),
         Instr::Text { head, behind } => push_text(out, code, head, behind),
         Instr::HandOn(source) => push_source(out, "HandOn ", source),
@@ -109,10 +110,42 @@ pub(crate) fn push_instruction(out: &mut String, code: &Code, does: Instr) -> Re
         Instr::Compare { call } => push_compare(out, code, call),
         Instr::Prepare { call, formal } => push_prepare(out, code, call, formal),
         Instr::CallThrough { site, call } => push_call_through(out, code, site, call),
-        Instr::PlaceBack { formal, head } => write!(out, "PlaceBack {formal} @{head}"),
+        Instr::PlaceBack { formal, head } => push_place_back(out, formal, head),
         Instr::Stop => out.push_str("Stop"),
         Instr::Stuck => out.push_str("Stuck"),
     }
+}
+
+/// Writes a number behind a front.
+fn push_number(out: &mut String, front: &str, number: u32) -> Result<(), AllocError> {
+    out.push_str(front)?;
+    write!(out, "{number}")
+}
+
+/// Writes what works on operands, by its name.
+fn push_operator<T: Debug>(out: &mut String, front: &str, operator: &T) -> Result<(), AllocError> {
+    out.push_str(front)?;
+    write!(out, "{operator:?}")
+}
+
+/// Writes the taking of a part of a string.
+fn push_part(out: &mut String, whole: u16, count: u16) -> Result<(), AllocError> {
+    write!(out, "Part {count} of {whole}")
+}
+
+/// Writes a jump out of the text that runs, or within it.
+fn push_goto(out: &mut String, links: u16, position: u32, target: u32) -> Result<(), AllocError> {
+    write!(out, "Goto {links}.{position} @{target}")
+}
+
+/// Writes what begins the next turn of FOR.
+fn push_next_turn(out: &mut String, target: u32, position: u32) -> Result<(), AllocError> {
+    write!(out, "NextTurn @{target} 0.{position}")
+}
+
+/// Writes the place to which a formal is assigned back.
+fn push_place_back(out: &mut String, formal: u32, head: u32) -> Result<(), AllocError> {
+    write!(out, "PlaceBack {formal} @{head}")
 }
 
 /// What a variable is wanted for.

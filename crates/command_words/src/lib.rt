@@ -5,8 +5,6 @@ mod laws;
 mod numbers;
 mod options;
 mod order;
-#[cfg(test)]
-mod tests;
 
 pub use laws::words_say_one_order;
 pub use order::{Order, WordsError, read_words};

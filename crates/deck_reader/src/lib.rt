@@ -12,8 +12,6 @@ mod open_job;
 mod queue;
 mod reader;
 mod reading;
-#[cfg(test)]
-mod tests;
 
 pub use accounts::find_account;
 pub use batch::{Account, Batch, Flaw, Job};

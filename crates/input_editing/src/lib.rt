@@ -4,8 +4,6 @@
 mod input;
 mod items;
 mod laws;
-#[cfg(test)]
-mod tests;
 
 pub use input::Input;
 pub use laws::{cards_are_read_whole, scanning_is_exact};

@@ -15,6 +15,11 @@ module _ {X : Type 0} (f : X → ℕ) where
   sum_set (z ∷ xs) zero x y e = let s = ap f (some-injective z x e) in let a = sum_by-cons f y xs in let b = sum_by-cons f z xs in omega (arith, s, a, b)
   sum_set (z ∷ xs) (suc i) x y e = let s = sum_set xs i x y e in let a = sum_by-cons f z (set xs i y) in let b = sum_by-cons f z xs in omega (arith, s, a, b)
 
+  -- a sum of less
+  pub sum_less : (g : X → ℕ) → ((x : X) → f x ≤ g x) → (xs : List X) → sum_by f xs ≤ sum_by g xs
+  sum_less g less [] = omega arith
+  sum_less g less (z ∷ xs) = let s = sum_less g less xs in let l = less z in let a = sum_by-cons f z xs in let b = sum_by-cons g z xs in omega (arith, s, l, a, b)
+
   -- each element is in it
   pub in_sum : (xs : List X) (i : ℕ) (x : X) → get_elem? xs i ≡ some x → f x ≤ sum_by f xs
   in_sum [] i x e = absurd (some-ne-none x (sym e))

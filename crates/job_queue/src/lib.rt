@@ -8,8 +8,6 @@ mod laws;
 mod passes;
 mod queue;
 mod rule;
-#[cfg(test)]
-mod tests;
 mod ticket;
 
 pub use book::SettleBook;

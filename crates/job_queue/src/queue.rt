@@ -29,16 +29,16 @@ impl<B: QueueBrand> JobQueue<B> {
     /// call the queue held as many tickets as it has room for, which were the last ones of those that were put.
     pub fn put<R: Wait>(&self, rt: &R, pass: &mut PutPass<B>, ticket: Ticket) -> Result<(), Ticket>
         requires rises { All (λ t. t.number < ticket.number) (view pass.old.pass).put }
-        ensures put { OnOk result (view pass.new.pass ≡ with_put (view pass.old.pass) ticket) }
+        ensures put { OnOk result (view pass.new.pass ≡ with_put (view pass.new.pass).held (view pass.old.pass) ticket) }
         ensures amounts { OnOk result (amount_of (view pass.new.pass).put < 2 ^ 62) }
         ensures back { IfErr result (λ back. back ≡ ticket) }
-        ensures counted { OnErr result (view pass.new.pass ≡ found_full (view pass.old.pass)) }
+        ensures counted { OnErr result (view pass.new.pass ≡ found_full (ruled_capacity self.now.ring) (view pass.old.pass)) }
         ensures full { OnErr result (Held (ruled_capacity self.now.ring) (IsEndOf (view pass.old.pass).put)) }
     {
         match self.ring.push_as::<Puts, R>(rt, &mut pass.pass, ticket) {
             Ok(()) => Ok(()),
             Err(back) => {
-                let _receipt = self.ring.another::<FoundFull>(&mut pass.pass);
+                let _receipt = self.ring.another::<FoundFull<B>>(&mut pass.pass);
                 Err(back)
             }
         }
@@ -49,7 +49,7 @@ impl<B: QueueBrand> JobQueue<B> {
     /// ticket that was put.
     pub fn take<R: Wait>(&self, rt: &R, pass: &mut TakePass<B>) -> Option<Ticket>
         ensures share { pass.new.share ≡ pass.old.share }
-        ensures taken { IfSome result (λ ticket. view pass.new.pass ≡ with_taken (view pass.old.pass) ticket) }
+        ensures taken { IfSome result (λ ticket. view pass.new.pass ≡ with_taken (view pass.new.pass).heard (view pass.old.pass) ticket) }
         ensures owed { IfSome result (λ ticket. pass.new.owed ≡ pass.old.owed + ticket.amount) }
         ensures counted { IfNone result (view pass.new.pass ≡ found_empty (view pass.old.pass)) }
         ensures owes { IfNone result (pass.new.owed ≡ pass.old.owed) }

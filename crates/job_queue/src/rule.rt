@@ -6,9 +6,11 @@
 //! or empty: no other place makes it.
 ghost use Rattle.std.specs.Prelude.{◌≡◌};
 
+use crate::brand::QueueBrand;
 use crate::ticket::Ticket;
 use crossbeam_queue::protocol::{Join, Lesson, Outcome, Protocol, Split};
 use std::collections::LinkedList;
+use std::marker::PhantomData;
 
 /// What a pass of the queue knows. It is of proofs alone: no value of it is ever made.
 pub struct PassView {
@@ -20,6 +22,12 @@ pub struct PassView {
     pub put: LinkedList<Ticket>,
     /// The tickets that it has taken.
     pub taken: LinkedList<Ticket>,
+    /// How many tickets had been put, at each of its takes.
+    pub heard: LinkedList<u64>,
+    /// With the right to put, how many tickets the queue held right after the last put. It has held no more since then.
+    pub held: u64,
+    /// How many a put found in a queue that it found full since then, and 0 where none did.
+    pub met: u64,
     /// How often a put found the queue full.
     pub full: u64,
     /// How often a take found it empty.
@@ -59,13 +67,15 @@ impl Split<PassView> for PartOff {
     ghost right = { λ v. one_part };
 }
 
-/// A put has found the queue full.
-pub(crate) struct FoundFull;
+/// A put has found the queue full: it held as many tickets as it has room for.
+pub(crate) struct FoundFull<B> {
+    of: PhantomData<B>,
+}
 
-impl Split<PassView> for FoundFull {
+impl<B: QueueBrand> Split<PassView> for FoundFull<B> {
     ghost use Rattle.job_queue.specs.Rule.{found_full, spent};
 
-    ghost left = { found_full };
+    ghost left = { found_full B.table.slots };
 
     ghost right = { λ v. spent };
 }
@@ -100,7 +110,7 @@ impl Outcome<Ticket, PassView> for Puts {
     ghost use Rattle.std.specs.Prelude.{◌<◌, ◌^◌};
     ghost use Rattle.job_queue.specs.Rule.{with_put, amount_of};
 
-    ghost then = { λ v x w. (w ≡ with_put v x) × (amount_of w.put < 2 ^ 62) };
+    ghost then = { λ v x w. (w ≡ with_put w.held v x) × (amount_of w.put < 2 ^ 62) };
 }
 
 impl Lesson<Ticket, PassView> for Puts {
@@ -117,7 +127,7 @@ impl Outcome<Ticket, PassView> for Takes {
     ghost use Rattle.std.specs.Prelude.{◌<◌, ◌^◌};
     ghost use Rattle.job_queue.specs.Rule.{with_taken, amount_of};
 
-    ghost then = { λ v x w. (w ≡ with_taken v x) × (amount_of w.taken < 2 ^ 62) };
+    ghost then = { λ v x w. (w ≡ with_taken w.heard v x) × (amount_of w.taken < 2 ^ 62) };
 }
 
 impl Lesson<Ticket, PassView> for Takes {

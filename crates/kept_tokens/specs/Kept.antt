@@ -1,5 +1,6 @@
 -- How a token is kept.
-use Rattle.std.specs.Prelude.{◌≡◌, ℕ, List}
+use Rattle.std.specs.Prelude.{◌≡◌, ℕ, List, [], ◌∷◌}
+use Rattle.value_ops.specs.declared.places.Place.{Place}
 use Rattle.algolw_tree.specs.declared.tokens.Token.{Token}
 use Rattle.algolw_tree.specs.declared.tokens.TokenKind.{TokenKind}
 use Rattle.algolw_tree.specs.declared.tokens.TokenKind.TheVariants.{Word, Named, Number, BitsLit, Quoted, Symbol, Finish}
@@ -22,6 +23,11 @@ token_of (held.Finish place) = record { place = place; kind = Finish }
 
 abbrev pub kept_token : Inside → Token
 kept_token kept = token_of kept.held
+
+-- the place of the first token; on no card where there is none
+abbrev pub place_at : List Token → Place
+place_at [] = record { card = 0; column = 0 }
+place_at (t ∷ w) = t.place
 
 -- a kind of this sort
 abbrev pub IsSortOf : TokenSort → TokenKind → Type 0

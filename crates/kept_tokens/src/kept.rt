@@ -1,6 +1,6 @@
 ghost use Rattle.std.specs.Prelude.{◌≡◌, IfOk};
 ghost use Rattle.algolw_tree.specs.declared.tokens.TokenKind.TheVariants.{Named, Quoted};
-ghost use Rattle.kept_tokens.specs.Kept.{token_of, IsSortOf};
+ghost use Rattle.kept_tokens.specs.Kept.{place_at, token_of, IsSortOf};
 
 use algolw_tree::{ShortName, Spelling, Symbol, Token, TokenKind, Word};
 use std::alloc::{AllocError, Global};
@@ -113,6 +113,16 @@ impl KeptToken {
             Held::Symbol(_, symbol) => Ok(TokenKind::Symbol(*symbol)),
             Held::Finish(_) => Ok(TokenKind::Finish),
         }
+    }
+}
+
+/// Where the first of the tokens begins; on no card where there is none.
+pub fn first_place(tokens: &[KeptToken]) -> Place
+    ensures { result ≡ place_at tokens.now }
+{
+    match tokens {
+        [token, ..] => token.place(),
+        [] => Place { card: 0, column: 0 },
     }
 }
 

@@ -3,4 +3,4 @@
 
 mod kept;
 
-pub use kept::{KeptToken, TokenSort};
+pub use kept::{KeptToken, TokenSort, first_place};

@@ -30,14 +30,14 @@ use Rattle.machine_rows.specs.declared.held.Halt.TheVariants as halt
 use Rattle.cell_store.specs.declared.cells.Word.{Word as Held}
 use Rattle.machine_rows.specs.declared.state.State.{State}
 use Rattle.machine_rows.specs.Seen.{Seen, Stands, IsClear, EntryFits, machine_of, entry_of, closure_of}
-use Rattle.machine_calls.specs.declared.next.Next as next
-use Rattle.machine_calls.specs.declared.next.Next.TheVariants as comes
+use Rattle.machine_rows.specs.declared.next.Next as next
+use Rattle.machine_rows.specs.declared.next.Next.TheVariants as comes
 use Rattle.machine_calls.specs.Found.{call_row, procedure_at, formal_entries}
-use Rattle.machine_calls.specs.Rows.{Goes, Lands}
+use Rattle.machine_rows.specs.Rows.{Goes, Lands}
 use Rattle.machine_calls.proofs.Heads.{procedure_found}
-use Rattle.machine_calls.proofs.Rows.{HasRoom, text_more, one_deeper, deeper_on, deeper_off, tick_on, tick_off}
-use Rattle.machine_calls.proofs.Standing.{Fits, restored, entered_fits, store_fits}
-use Rattle.machine_calls.proofs.Entering.{cells_count, entries_count}
+use Rattle.machine_rows.proofs.Rows.{HasRoom, text_more, one_deeper, deeper_on, deeper_off, tick_on, tick_off}
+use Rattle.machine_rows.proofs.Standing.{Fits, restored, entered_fits, store_fits}
+use Rattle.machine_rows.proofs.Entering.{cells_count, entries_count}
 use Rattle.machine_calls.proofs.Formals.{AreEntered, formals_entered, on_top, entries_fit}
 use Rattle.machine_calls.proofs.Using.{counted_frame, counted_row, counted_room, counted_is, counted_machine, room_there, allowed_below, limited_over, refused_below}
 use Rattle.machine_calls.proofs.Thunks.{ticked}

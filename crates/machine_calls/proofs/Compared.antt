@@ -25,13 +25,13 @@ use Rattle.machine_rows.specs.declared.held.Halt.TheVariants as halt
 use Rattle.cell_store.specs.declared.cells.Word.{Word as Held}
 use Rattle.machine_rows.specs.declared.state.State.{State}
 use Rattle.machine_rows.specs.Seen.{Seen, Stands, IsClear, machine_of, row_of, content_of, thunk_of}
-use Rattle.machine_calls.specs.declared.next.Next as next
-use Rattle.machine_calls.specs.declared.next.Next.TheVariants as comes
-use Rattle.machine_calls.specs.Rows.{Goes}
+use Rattle.machine_rows.specs.declared.next.Next as next
+use Rattle.machine_rows.specs.declared.next.Next.TheVariants as comes
+use Rattle.machine_rows.specs.Rows.{Goes}
 use Rattle.machine_calls.specs.Found as found
 use Rattle.machine_calls.specs.Fitting as fitting
 use Rattle.machine_calls.proofs.Heads.{procedure_found}
-use Rattle.machine_calls.proofs.Sets.{or_mapped}
+use Rattle.stack_code.proofs.Sets.{or_mapped}
 use Rattle.machine_calls.proofs.Parts.{source_is, parts_are}
 use Rattle.machine_calls.proofs.Thunks.{use_row}
 

@@ -16,7 +16,7 @@ use Rattle.stack_code.specs.Doing.{Row, ◌>>◌, enter, most_entries}
 use Rattle.stack_code.specs.Table.{enter_formals, name_of}
 use Rattle.machine_rows.specs.Seen.{IsClear, EntryFits, entry_of}
 use Rattle.machine_calls.specs.Found.{entry_by, formal_entry, formal_entries}
-use Rattle.machine_calls.proofs.Rows.{in_line, entry_more, clear_enter, enter_is}
+use Rattle.machine_rows.proofs.Rows.{in_line, entry_more, clear_enter, enter_is}
 
 -- a formal's entry
 named_by : (g : Given) (f : FormalType) (name k : ℕ) → name_of (formal_type_view g f) (text_view g name) k ≡ entry_of g (entry_by f name k)

@@ -24,13 +24,13 @@ use Rattle.machine_rows.specs.declared.state.State.{State}
 use Rattle.machine_rows.specs.Kinds.{WideFits, CellFits, CellsFit}
 use Rattle.machine_rows.specs.Names as named
 use Rattle.machine_rows.specs.Seen.{Seen, Stands, Comes, IsClear, machine_of, row_of, content_of, wide_content}
-use Rattle.machine_calls.specs.declared.next.Next as next
-use Rattle.machine_calls.specs.declared.next.Next.TheVariants as comes
+use Rattle.machine_rows.specs.declared.next.Next as next
+use Rattle.machine_rows.specs.declared.next.Next.TheVariants as comes
 use Rattle.machine_calls.specs.Found as found
-use Rattle.machine_calls.specs.Rows.{Goes, Lands}
+use Rattle.machine_rows.specs.Rows.{Goes, Lands}
 use Rattle.machine_calls.proofs.Parts.{source_is}
 use Rattle.machine_calls.proofs.Preparing.{later}
-use Rattle.machine_calls.proofs.Standing.{restored, store_fits, all_got}
+use Rattle.machine_rows.proofs.Standing.{restored, store_fits, all_got}
 
 -- its type fits
 at_cell : (g : Given) (cells : List Cell) (k : Option ℕ) (w : Wide) → CellsFit g cells → named.cell_at cells k ≡ Some (a_wide w) → WideFits g w

@@ -1,10 +1,5 @@
-pub mod Rows
 pub mod Sources
 pub mod Heads
-pub mod Memory
-pub mod Sets
-pub mod Standing
-pub mod Entering
 pub mod Formals
 pub mod Using
 pub mod Thunks

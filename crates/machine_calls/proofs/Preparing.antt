@@ -28,9 +28,9 @@ use Rattle.program_meaning.specs.Phrases as phrases
 use Rattle.cell_store.specs.declared.cells.Word.{Word as Held}
 use Rattle.machine_rows.specs.declared.state.State.{State}
 use Rattle.machine_rows.specs.Seen.{Seen, Stands, IsClear, machine_of, row_of, closure_of, frame_of, frames_of}
-use Rattle.machine_calls.specs.declared.next.Next as next
-use Rattle.machine_calls.specs.declared.next.Next.TheVariants as comes
-use Rattle.machine_calls.specs.Rows.{Goes}
+use Rattle.machine_rows.specs.declared.next.Next as next
+use Rattle.machine_rows.specs.declared.next.Next.TheVariants as comes
+use Rattle.machine_rows.specs.Rows.{Goes}
 use Rattle.machine_calls.specs.Found as found
 use Rattle.machine_calls.specs.Found.{call_row}
 use Rattle.machine_calls.proofs.Heads.{procedure_found, text_found}

@@ -1,4 +1,2 @@
-pub mod Given
 pub mod Found
 pub mod Fitting
-pub mod Rows

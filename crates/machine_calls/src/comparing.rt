@@ -18,7 +18,7 @@ use crate::texts::find_procedure;
 use algolw_tree::Gives;
 use cell_store::{Closed, Descriptor, Store, Wide};
 use machine_rows::cell_out;
-use stack_code::{Code, Formal, FormalType, Instr, Reading, Source, TextHead};
+use stack_code::{Code, Formal, FormalType, Instr, Reading, Source, TextHead, is_same};
 use value_ops::{SetId, SimpleType};
 
 /// What an actual is where it is compared with a formal.
@@ -338,33 +338,4 @@ fn share_one(code: &Code, given: SetId, wanted: SetId) -> bool
 {
     let classes = code.set_classes(given);
     classes.is_empty() || classes.iter().any(|class| code.set_has(wanted, *class))
-}
-
-/// Whether two types are the same.
-pub(crate) fn is_same(code: &Code, one: SimpleType, other: SimpleType) -> bool
-    requires whole { GivenFits code.now.given }
-    requires one { KindRuns code.now.given one }
-    requires other { KindRuns code.now.given other }
-    ensures { result ≡ types.is_same (kind_view code.now.given one) (kind_view code.now.given other) }
-{
-    match (one, other) {
-        (SimpleType::Integer, SimpleType::Integer)
-        | (SimpleType::Logical, SimpleType::Logical)
-        | (SimpleType::Bits, SimpleType::Bits) => true,
-        (SimpleType::Str(one), SimpleType::Str(other)) => one == other,
-        (SimpleType::Reference(one), SimpleType::Reference(other)) => {
-            is_same_set(code, one, other)
-        }
-        _ => false,
-    }
-}
-
-/// Whether two sets have the same classes.
-fn is_same_set(code: &Code, one: SetId, other: SetId) -> bool
-    requires whole { GivenFits code.now.given }
-    requires one { one.0 < length code.now.given.classes.sets }
-    requires other { other.0 < length code.now.given.classes.sets }
-    ensures { result ≡ types.is_same (kind_view code.now.given (SimpleType.Reference one)) (kind_view code.now.given (SimpleType.Reference other)) }
-{
-    code.set_classes(one) == code.set_classes(other)
 }

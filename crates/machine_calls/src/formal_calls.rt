@@ -10,19 +10,18 @@ ghost use Rattle.value_ops.specs.declared.places.Place.{Place};
 ghost use Rattle.cell_store.specs.declared.cells.Wide.TheVariants as wide;
 ghost use Rattle.machine_rows.specs.Kinds.{CellsFit};
 ghost use Rattle.machine_rows.specs.Seen.{Seen, Stands, Comes, machine_of, row_of, IsClear};
-ghost use Rattle.machine_calls.specs.Given.{IsGiven};
+ghost use Rattle.machine_rows.specs.Given.{IsGiven};
 ghost use Rattle.machine_calls.specs.Fitting as fitting;
 ghost use Rattle.machine_calls.specs.Found as found;
-ghost use Rattle.machine_calls.specs.Rows.{Goes, Lands};
+ghost use Rattle.machine_rows.specs.Rows.{Goes, Lands};
 
-use crate::comparing::{actuals_fit, is_same, text_at};
-use crate::next::{Given, Next, go_to};
+use crate::comparing::{actuals_fit, text_at};
 use crate::texts::{call_procedure, enter_aside, hold_thunk, procedure_at, use_thunk};
 use algolw_tree::Gives;
 use cell_store::{Closed, Procedure, Purpose, Store, Wide};
-use machine_rows::{Halt, Held, State, cell_out};
+use machine_rows::{Given, Halt, Held, Next, State, cell_out, go_to};
 use name_thunks::text_out;
-use stack_code::{Code, ComparedCall, FormalType, Reading, Source};
+use stack_code::{Code, ComparedCall, FormalType, Reading, Source, is_variable_of};
 use value_ops::{Fault, Place, SimpleType};
 
 /// What stands for a name, where it is wide, as procedures, copied actuals and arrays are.
@@ -251,24 +250,11 @@ fn prepare_phrase(
         }
         FormalType::Result(_) => ready(Held::Nothing, pc),
         FormalType::ByName(kind) => {
-            let variable = is_variable && gives_same(code, gives, kind);
+            let variable = is_variable_of(code, kind, is_variable, gives);
             ready(hold_thunk(state, variable, Some(kind), head), pc)
         }
         FormalType::Procedure(result) => ready(hold_thunk(state, false, result, head), pc),
         FormalType::Array { .. } => unreachable!(),
-    }
-}
-
-/// Whether a value of just a type is given.
-fn gives_same(code: &Code, gives: Gives, kind: SimpleType) -> bool
-    requires whole { GivenFits code.now.given }
-    requires gives { GivesRuns code.now.given gives }
-    requires kind { KindRuns code.now.given kind }
-    ensures { result ≡ is_variable_of (kind_view code.now.given kind) true (gives_view (numbers code.now.given) gives) }
-{
-    match gives {
-        Gives::Simple(given) => is_same(code, given, kind),
-        Gives::Statement => false,
     }
 }
 

@@ -4,12 +4,10 @@
 
 mod comparing;
 mod formal_calls;
-mod next;
 mod texts;
 
 pub use comparing::{find_text, text_at};
 pub use formal_calls::{call_through, compare, hand_on, place_back, prepare};
-pub use next::{Given, Next, Registers, go_to, onward};
 pub use texts::{
-    aside, call, end, enter, find_procedure, make_thunk, procedure_at, return_back, use_formal,
+    aside, call, end, find_procedure, make_thunk, procedure_at, return_back, use_formal,
 };

@@ -4,8 +4,7 @@ ghost use Rattle.machine_rows.specs.Seen.{Seen, Stands, Comes, machine_of, row_o
 
 use crate::loops::cut_to_position;
 use cell_store::{Entry, Mark, Word};
-use machine_calls::enter;
-use machine_rows::{Halt, Held, State, entry_out};
+use machine_rows::{Halt, Held, State, enter, entry_out};
 use value_ops::Place;
 
 /// A block's mark.

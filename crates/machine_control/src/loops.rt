@@ -6,13 +6,12 @@ ghost use Rattle.stack_code.specs.CodeView.{statement_view};
 ghost use Rattle.stack_code.specs.Table.{turn_or_exit};
 ghost use Rattle.machine_rows.specs.Names as named;
 ghost use Rattle.machine_rows.specs.Seen.{Seen, Stands, Comes, machine_of, row_of, IsClear};
-ghost use Rattle.machine_calls.specs.Given.{IsGiven};
-ghost use Rattle.machine_calls.specs.Rows.{Goes};
+ghost use Rattle.machine_rows.specs.Given.{IsGiven};
+ghost use Rattle.machine_rows.specs.Rows.{Goes};
 ghost use Rattle.machine_control.specs.Counting as counting;
 
 use cell_store::{Entry, Store, Word};
-use machine_calls::{Given, Next, enter, go_to};
-use machine_rows::{Halt, Held, State, entry_out, start_out, tick};
+use machine_rows::{Given, Halt, Held, Next, State, enter, entry_out, go_to, start_out, tick};
 use stack_code::Code;
 use value_ops::{Fault, Place};
 

@@ -26,3 +26,7 @@ pub mod Filling
 pub mod Starred
 pub mod Integers
 pub mod Subscripts
+pub mod Rows
+pub mod Memory
+pub mod Standing
+pub mod Entering

@@ -8,3 +8,5 @@ pub mod Parts
 pub mod Assigned
 pub mod Printed
 pub mod Pushed
+pub mod Given
+pub mod Rows

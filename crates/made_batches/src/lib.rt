@@ -5,8 +5,6 @@ mod batch;
 mod decks;
 mod draws;
 mod laws;
-#[cfg(test)]
-mod tests;
 
 pub use batch::make_batch;
 pub use laws::made_batch_fits;

@@ -1,19 +1,8 @@
 // Reads a batch of cards from standard input, runs its jobs, and writes the listing to standard output.
 #![tactic(auto)]
 
-#[cfg(test)]
-mod cut_tests;
-#[cfg(test)]
-mod fault_tests;
-mod made;
-#[cfg(test)]
-mod tests;
-mod top;
-#[cfg(test)]
-mod worker_tests;
-
-use crate::top::{Status, run_monitor};
 use batch_io::{OpenGate, StdSink, StdSource};
+use batch_monitor::{Status, run_monitor};
 use std::alloc::AllocError;
 use std::process::ExitCode;
 use std::rt::Env;

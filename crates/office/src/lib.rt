@@ -7,8 +7,6 @@ mod office;
 mod prospect;
 mod register;
 mod standing;
-#[cfg(test)]
-mod tests;
 
 pub use answers::{Admitted, ArriveError, Stranger};
 pub use laws::answers_are_exact;

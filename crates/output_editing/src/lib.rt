@@ -4,8 +4,6 @@
 mod fields;
 mod laws;
 mod printer;
-#[cfg(test)]
-mod tests;
 
 pub use laws::{lines_are_cut, lines_are_never_fewer, lines_fit, lines_stay};
 pub use printer::Printer;

@@ -5,8 +5,6 @@ mod dump;
 mod entries;
 mod lines;
 mod source;
-#[cfg(test)]
-mod tests;
 
 pub use dump::{dump_line, place_line};
 pub use entries::{Dimensions, Entry, Shown};

@@ -5,8 +5,6 @@ mod class;
 mod class_set;
 mod laws;
 mod table;
-#[cfg(test)]
-mod tests;
 
 pub use laws::{classes_are_found, sets_are_numbered};
 pub use table::ClassTable;

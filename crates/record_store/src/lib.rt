@@ -3,7 +3,5 @@
 
 mod fields;
 mod records;
-#[cfg(test)]
-mod tests;
 
 pub use records::Records;

@@ -5,3 +5,4 @@ pub mod Growing
 pub mod Linked
 pub mod Numbers
 pub mod Limited
+pub mod Sets

@@ -8,6 +8,7 @@ mod instructions;
 mod laws;
 mod limits;
 mod linking;
+mod types;
 
 pub use code::{Code, ProgramTables};
 pub use heads::{
@@ -17,3 +18,4 @@ pub use instructions::{Coded, Constant, Instr, Mode, Purpose, Source, UnaryOp};
 pub use laws::{
     code_is_made, numbers_are_told, outcomes_are_one, outcomes_stay, rows_are_not_stuck,
 };
+pub use types::{is_same, is_variable_of};

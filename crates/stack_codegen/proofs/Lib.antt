@@ -1,4 +1,3 @@
-pub mod Sets
 pub mod NodeSizes
 pub mod NodeRows
 pub mod Heads

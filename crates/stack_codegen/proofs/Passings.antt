@@ -29,8 +29,8 @@ use Rattle.code_emitter.proofs.Joining.{codes_as, codes_is, codes_most, codes_ne
 use Rattle.code_emitter.proofs.Singles.{aside_codes, thunk_codes}
 use Rattle.stack_codegen.specs.declared.actuals.ActualKind.{ActualKind}
 use Rattle.stack_codegen.specs.declared.actuals.ActualKind.TheVariants as kind
-use Rattle.stack_codegen.specs.declared.actuals.Passing.{Passing}
-use Rattle.stack_codegen.specs.declared.actuals.Passing.TheVariants as passing
+use Rattle.code_emitter.specs.declared.passing.Passing.{Passing}
+use Rattle.code_emitter.specs.declared.passing.Passing.TheVariants as passing
 use Rattle.stack_codegen.specs.Calls.{GivenFit, IsCodableKind, actual_in, content_code, name_phrase, passing_of, ready_marks}
 use Rattle.stack_codegen.proofs.ActualKinds.{gives_same}
 use Rattle.stack_codegen.proofs.NamesAlone.{part_in}

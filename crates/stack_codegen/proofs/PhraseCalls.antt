@@ -28,7 +28,8 @@ use Rattle.code_emitter.specs.Appending.{appended, begun, made_into}
 use Rattle.code_emitter.specs.Parts.{CodesPhrase, Stays, none_own, phrase_in, scene}
 use Rattle.stack_codegen.specs.declared.phrases.Branch.{Branch}
 use Rattle.stack_codegen.specs.Codable.{CodesNode, IsCodable, IsCodablePerhaps, node_in, with_kind}
-use Rattle.stack_codegen.specs.Operations.{CodesBefore, CodesPair, CodesStatement, Continues, IsCodableBranch, branch_phrase, choice, deciding, is_logical, optional_phrase, perhaps_phrase}
+use Rattle.stack_codegen.specs.Operations.{CodesBefore, CodesPair, CodesStatement, Continues, IsCodableBranch, branch_phrase, choice, is_logical, optional_phrase, perhaps_phrase}
+use Rattle.code_emitter.specs.Operators.{deciding}
 use Rattle.stack_codegen.proofs.Chains.{chained}
 use Rattle.stack_codegen.proofs.Leaves.{missing_codes}
 use Rattle.stack_codegen.proofs.PhraseParts.{assign_done, if_done, scene_begun, statement_done}

@@ -11,7 +11,7 @@ use Rattle.algolw_typing.specs.ProgramView.{Numbers, gives_view, numbered}
 use Rattle.algolw_typing.specs.ProgramView as program
 use Rattle.program_meaning.specs.Phrases as phrases
 use Rattle.program_meaning.specs.Phrases.{Phrase, Actual, Actuals, no_actuals, actual_and, Formal}
-use Rattle.program_meaning.specs.Copying.{free_of, is_variable_of}
+use Rattle.program_meaning.specs.Copying.{free_of}
 use Rattle.program_meaning.specs.Translating.{actual_of, actuals_of, subscripts_of}
 use Rattle.phrase_code.specs.Coding as coding
 use Rattle.phrase_code.specs.Coding.{◌▸◌, Context, Stand, bare_call, call_code, code_actuals, code_backs, code_subscripts, code_texts, kind_of_stand, known, one, place_back_by, reading_of_name, reading_of_subarray, stand_of, stars_of, subarray_code, with_entries}
@@ -21,11 +21,10 @@ use Rattle.phrase_code.specs.Sizes.{actual_size, actuals_size, call_kind, head_k
 use Rattle.compilable_programs.specs.Suits.{ActualsSuit, ArePassed, CallSuits, SubscriptsSuit}
 use Rattle.stack_code.specs.Code as code
 use Rattle.stack_code.specs.CodeView as view
-use Rattle.stack_code.specs.CodeView.{Added, CallView, TextFits, call_of, formal_view, kind_view, mode_view, numbers, reading_view}
+use Rattle.stack_code.specs.CodeView.{Added, CallView, TextFits, call_of, formal_view, mode_view, reading_view}
 use Rattle.stack_code.specs.Instr as instr
 use Rattle.stack_code.specs.Linking.{linked_added, linked_reading}
 use Rattle.stack_code.specs.declared.heads.FormalType.{FormalType}
-use Rattle.stack_code.specs.declared.heads.FormalType.TheVariants as formal
 use Rattle.stack_code.specs.declared.heads.TextHead.{TextHead}
 use Rattle.symbol_table.specs.declared.here.Here.{Here}
 use Rattle.symbol_table.specs.declared.standings.Entry.{Entry}
@@ -41,8 +40,9 @@ use Rattle.code_emitter.specs.Parts.{Codes, none_own, place_in, scene}
 use Rattle.stack_codegen.specs.declared.actuals.ActualKind.{ActualKind}
 use Rattle.stack_codegen.specs.declared.actuals.ActualKind.TheVariants as kind
 use Rattle.stack_codegen.specs.declared.actuals.Given.{Given}
-use Rattle.stack_codegen.specs.declared.actuals.Passing.{Passing}
-use Rattle.stack_codegen.specs.declared.actuals.Passing.TheVariants as passing
+use Rattle.code_emitter.specs.declared.passing.Passing.{Passing}
+use Rattle.code_emitter.specs.declared.passing.Passing.TheVariants as passing
+use Rattle.code_emitter.specs.Passings as passings
 use Rattle.stack_codegen.specs.Codable.{IsCodableActuals, IsCodablePerhaps, sizes_known}
 use Rattle.stack_codegen.specs.Operations.{optional_phrase}
 
@@ -184,25 +184,9 @@ pub record IsHead (e : Emitter) (here : Here) (a : Actual) (head : TextHead) : T
 
 -- ---- how actuals are passed in line
 
-abbrev pub passing_of_given : view.Given → Given → FormalType → Passing
-passing_of_given s g (formal.Value t) = passing.Value t
-passing_of_given s g (formal.Result t) = passing.Reserve
-passing_of_given s g (formal.ValueResult t) = passing.Aside t
-passing_of_given s g (formal.ByName t) = passing.Thunk (Some t) (is_variable_of (kind_view s t) g.is_variable (gives_view (numbers s) g.gives))
-passing_of_given s g (formal.Procedure t) = passing.Thunk t false
-passing_of_given s g (formal.Array t n) = passing.Stuck
-
-abbrev pub passing_of_name : ℕ → FormalType → Passing
-passing_of_name name (formal.Value t) = passing.Value t
-passing_of_name name (formal.ByName t) = passing.Thunk (Some t) false
-passing_of_name name (formal.Procedure t) = passing.HandOn name
-passing_of_name name (formal.Array t n) = passing.HandOn name
-passing_of_name name (formal.Result t) = passing.Stuck
-passing_of_name name (formal.ValueResult t) = passing.Stuck
-
 abbrev pub passing_of : view.Given → ActualKind → FormalType → Passing
-passing_of s (kind.Given g) f = passing_of_given s g f
-passing_of s (kind.Alone p name) f = passing_of_name name f
+passing_of s (kind.Given g) f = passings.of_phrase s g.is_variable g.gives f
+passing_of s (kind.Alone p name) f = passings.of_name name f
 passing_of s (kind.Subarray name subscripts) f = passing.Subarray
 
 -- ---- the same through a procedure formal

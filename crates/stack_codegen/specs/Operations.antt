@@ -1,8 +1,6 @@
 -- Phrases with what is done behind them.
 use Rattle.std.specs.Prelude.{◌≡◌, ℕ, ◌+◌, ◌==◌, if◌then◌else◌, max, Bool, true, false, Option, Some, None}
 use Rattle.std.specs.Borrow.{Bor}
-use Rattle.algolw_tree.specs.declared.phrases.Op.{Op}
-use Rattle.algolw_tree.specs.declared.phrases.Op.TheVariants as op
 use Rattle.algolw_tree.specs.declared.programs.Node.{Node}
 use Rattle.value_ops.specs.declared.values.ClassId.{ClassId}
 use Rattle.value_ops.specs.declared.values.SimpleType.TheVariants as simple
@@ -100,9 +98,3 @@ class_test (Some c) = held.IsClass c
 -- what is wanted of the first of so many operands more: what is wanted of all, where there are no others
 abbrev pub first_wanted : Mode → ℕ → Mode
 first_wanted u others = if others == 0 then u else mode.Value
-
--- the truth value of the left operand that decides an AND or an OR of LOGICALs, so that the right one isn't evaluated
-abbrev pub deciding : Bool → Op → Option Bool
-deciding true op.And = Some false
-deciding true op.Or = Some true
-deciding logical o = None

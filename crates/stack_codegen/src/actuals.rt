@@ -1,11 +1,9 @@
 ghost use Rattle.std.specs.Prelude.{◌≡◌, ◌<◌, IfOk, None, OnOk, length, map};
-ghost use Rattle.algolw_typing.specs.ProgramView.{gives_view};
-ghost use Rattle.program_meaning.specs.Copying as copying;
 ghost use Rattle.program_meaning.specs.Translating as translating;
 ghost use Rattle.phrase_code.specs.Coding as coding;
 ghost use Rattle.phrase_code.specs.Coding.{◌▸◌};
 ghost use Rattle.phrase_code.specs.Marks.{actual_marks};
-ghost use Rattle.stack_code.specs.CodeView.{GivenFits, GivesFits, FormalTypeFits, KindFits, formal_type_view, kind_view, mode_view, numbers};
+ghost use Rattle.stack_code.specs.CodeView.{GivenFits, FormalTypeFits, KindFits, formal_type_view, kind_view, mode_view};
 ghost use Rattle.stack_code.specs.Instr as instr;
 ghost use Rattle.symbol_table.specs.Contexts.{Scene, coding_context, numbers_in, phrase_context};
 ghost use Rattle.symbol_table.specs.Parts.{actuals_in};
@@ -18,10 +16,11 @@ ghost use Rattle.stack_codegen.specs.Listed as listed;
 
 use crate::lists::{ListUse, emit_listed, first_list};
 use crate::phrases::{Branch, emit_perhaps};
-use crate::types::is_same;
 use algolw_tree::{Gives, Node, NodeKind, TypedActual};
-use code_emitter::{Emitter, reading_of_name, reading_of_subarray};
-use stack_code::{Code, FormalType, Instr, Mode, Reading, Stars, TextHead};
+use code_emitter::{
+    Emitter, Passing, passing_of_name, passing_of_phrase, reading_of_name, reading_of_subarray,
+};
+use stack_code::{FormalType, Instr, Mode, Reading, Stars, TextHead};
 use std::alloc::{AllocError, Global};
 use symbol_table::{Here, further};
 use value_ops::{Place, SimpleType};
@@ -57,25 +56,6 @@ pub(crate) struct TextMade {
     pub head: u32,
     /// How many marks it may have in each other.
     pub marks: u32,
-}
-
-/// How an actual of a declared procedure is coded in line.
-#[derive(Clone, Copy)]
-enum Passing {
-    /// Its value, made into a type and pushed.
-    Value(SimpleType),
-    /// A cell without a value.
-    Reserve,
-    /// The value of its text, made into a type and pushed.
-    Aside(SimpleType),
-    /// Its text, copied, for a variable or not.
-    Thunk(Option<SimpleType>, bool),
-    /// What stands for its name.
-    HandOn(u32),
-    /// A part of an array.
-    Subarray,
-    /// It doesn't suit the formal.
-    Stuck,
 }
 
 /// How many subscripts are stars.
@@ -151,55 +131,6 @@ fn actual_without_type(node: &Node) -> ActualKind<'_>
     }
 }
 
-/// Whether a phrase stands for a variable of a type.
-fn is_variable_of(code: &Code, kind: SimpleType, given: Given<'_>) -> bool
-    requires tables { GivenFits code.now.given }
-    requires kind { KindFits code.now.given kind }
-    requires gives { GivesFits code.now.given given.gives }
-    ensures { result ≡ copying.is_variable_of (kind_view code.now.given kind) given.entry.is_variable (gives_view (numbers code.now.given) given.entry.gives) }
-{
-    match given.gives {
-        Gives::Simple(of) => given.is_variable && is_same(code, of, kind),
-        Gives::Statement => false,
-    }
-}
-
-/// How a phrase is coded for a formal.
-fn passing_of_given(code: &Code, given: Given<'_>, formal: FormalType) -> Passing
-    requires tables { GivenFits code.now.given }
-    requires formal { FormalTypeFits code.now.given formal }
-    requires gives { GivesFits code.now.given given.gives }
-    ensures { result ≡ calls.passing_of_given code.now.given given.entry formal }
-{
-    match formal {
-        FormalType::Value(kind) => Passing::Value(kind),
-        FormalType::Result(_) => Passing::Reserve,
-        FormalType::ValueResult(kind) => Passing::Aside(kind),
-        FormalType::ByName(kind) => Passing::Thunk(Some(kind), is_variable_of(code, kind, given)),
-        FormalType::Procedure(result) => Passing::Thunk(result, false),
-        FormalType::Array {
-            kind: _,
-            dimensions: _,
-        } => Passing::Stuck,
-    }
-}
-
-/// How a name alone is coded for a formal.
-fn passing_of_name(name: u32, formal: FormalType) -> Passing
-    ensures { result ≡ calls.passing_of_name name formal }
-{
-    match formal {
-        FormalType::Value(kind) => Passing::Value(kind),
-        FormalType::ByName(kind) => Passing::Thunk(Some(kind), false),
-        FormalType::Procedure(_)
-        | FormalType::Array {
-            kind: _,
-            dimensions: _,
-        } => Passing::HandOn(name),
-        FormalType::Result(_) | FormalType::ValueResult(_) => Passing::Stuck,
-    }
-}
-
 /// How an actual is coded for a formal.
 fn passing_of(emitter: &Emitter, kind: ActualKind<'_>, formal: FormalType) -> Passing
     requires tables { GivenFits emitter.now.code.given }
@@ -208,7 +139,9 @@ fn passing_of(emitter: &Emitter, kind: ActualKind<'_>, formal: FormalType) -> Pa
     ensures { result ≡ calls.passing_of emitter.now.code.given kind.entry formal }
 {
     match kind {
-        ActualKind::Given(given) => passing_of_given(&emitter.code, given, formal),
+        ActualKind::Given(given) => {
+            passing_of_phrase(&emitter.code, given.is_variable, given.gives, formal)
+        }
         ActualKind::Alone(_, name) => passing_of_name(name, formal),
         ActualKind::Subarray(_, _) => Passing::Subarray,
     }

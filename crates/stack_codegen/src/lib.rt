@@ -17,6 +17,5 @@ mod lists;
 mod loops;
 mod names;
 mod phrases;
-mod types;
 
 pub use compiling::compile;

@@ -20,7 +20,7 @@ use crate::blocks::emit_block;
 use crate::loops::{Choices, emit_case, emit_for_list, emit_for_step, emit_while_do};
 use crate::names::emit_named;
 use algolw_tree::{Gives, Node, NodeKind, Op, TypedLink};
-use code_emitter::{Emitter, type_given, variable_type};
+use code_emitter::{Emitter, deciding, type_given, variable_type};
 use stack_code::{Constant, Instr, Mode, UnaryOp};
 use std::alloc::AllocError;
 use symbol_table::{Here, further};
@@ -284,17 +284,6 @@ fn emit_chain(
         marks = marks.max(right);
     }
     Ok(marks)
-}
-
-/// The truth value of the left operand that decides an `AND` or an `OR` of LOGICALs, so that the right one isn't evaluated.
-fn deciding(logical: bool, op: Op) -> Option<bool>
-    ensures { result ≡ operations.deciding logical op }
-{
-    match (logical, op) {
-        (true, Op::And) => Some(false),
-        (true, Op::Or) => Some(true),
-        _ => None,
-    }
 }
 
 /// An operator and its right operand, behind the left one.

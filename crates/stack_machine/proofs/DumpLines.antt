@@ -16,7 +16,7 @@ use Rattle.stack_code.specs.Run.{all_lines, dump_lines, shown_cell}
 use Rattle.machine_rows.specs.declared.state.State.{State}
 use Rattle.machine_rows.specs.Seen.{content_of, entry_of}
 use Rattle.machine_rows.proofs.Lists.{on_top_of-reverse}
-use Rattle.machine_calls.proofs.Memory.{entries_more}
+use Rattle.machine_rows.proofs.Memory.{entries_more}
 use Rattle.stack_machine.specs.Dumped.{shown_machine, cell_shown, mark_line, name_lines, between}
 
 -- ---- parts of lists

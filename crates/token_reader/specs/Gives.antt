@@ -2,7 +2,6 @@
 use Rattle.std.specs.Prelude.{◌≡◌, List, [], ◌∷◌, Option, Some, None, Result, Ok, Err}
 use Rattle.algolw_tree.specs.declared.tokens.Token.{Token}
 use Rattle.algolw_tree.specs.declared.tokens.Symbol.{Symbol}
-use Rattle.value_ops.specs.declared.places.Place.{Place}
 use Rattle.std.specs.declared.vec.Vec.{Vec}
 use Rattle.std.specs.declared.alloc.Global.{Global}
 use Rattle.algolw_tree.specs.declared.phrases.TypeSpec.{TypeSpec as Spec}
@@ -13,13 +12,9 @@ use Rattle.std.specs.declared.boxed.Box.{Box}
 use Rattle.algolw_grammar.specs.Readers.{Out, Got, Bad, Deep, Reader, mapped, gathered, read_labelled}
 use Rattle.algolw_grammar.specs.Reading.{read_later}
 use Rattle.algolw_grammar.specs.Taken.{label_taken}
+use Rattle.kept_tokens.specs.Kept.{place_at}
 use Rattle.token_reader.specs.declared.stop.Stop.{Stop}
 use Rattle.token_reader.specs.declared.stop.Stop.TheVariants.{Memory, Unexpected, TooDeep}
-
--- the place of the first token; on no card where there is none
-abbrev pub place_at : List Token → Place
-place_at [] = record { card = 0; column = 0 }
-place_at (t ∷ w) = t.place
 
 abbrev pub Fails : {A : Type 0} → Stop → Out A → Type 0
 Fails Memory o = Unit {0}

@@ -7,13 +7,14 @@ ghost use Rattle.algolw_grammar.specs.Kinds.{opens, has, word_number, the_word, 
 ghost use Rattle.algolw_grammar.specs.Readers.{read_empty, read_token, read_deep};
 ghost use Rattle.algolw_grammar.specs.Reading.{read_word, read_symbol, read_name, read_number, read_goto, first_phrase, first_goto, first_decl, listing_values};
 ghost use Rattle.algolw_grammar.specs.Taken.{is_word, is_symbol, finish_taken, label_taken};
+ghost use Rattle.kept_tokens.specs.Kept.{place_at};
 ghost use Rattle.token_reader.specs.declared.stop.Stop.TheVariants.{Unexpected, TooDeep};
-ghost use Rattle.token_reader.specs.Gives.{Gives, Fails, boxed_tree, place_at, label_at, ReadsLabel, ReadsLabels};
+ghost use Rattle.token_reader.specs.Gives.{Gives, Fails, boxed_tree, label_at, ReadsLabel, ReadsLabels};
 
 use crate::make;
 use crate::stop::Stop;
 use algolw_tree::{Names, Phrase, Spelling, Symbol, TokenKind, Word};
-use kept_tokens::{KeptToken, TokenSort};
+use kept_tokens::{KeptToken, TokenSort, first_place};
 use std::alloc::{AllocError, Global};
 use value_ops::Place;
 
@@ -178,10 +179,7 @@ impl Parser<'_> {
     pub fn place(&self) -> Place
         ensures { result ≡ place_at self.now.rest.now }
     {
-        match self.rest {
-            [token, ..] => token.place(),
-            [] => Place { card: 0, column: 0 },
-        }
+        first_place(self.rest)
     }
 
     /// The next token doesn't go on.

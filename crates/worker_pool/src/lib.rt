@@ -6,8 +6,6 @@ mod end;
 mod gathering;
 mod pool;
 mod staff;
-#[cfg(test)]
-mod tests;
 mod working;
 
 pub use caller::{Caller, Turn};

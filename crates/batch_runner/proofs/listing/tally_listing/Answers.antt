@@ -1,7 +1,7 @@
 use Rattle.std.proofs.Common.{◌+◌, length, ap, refl, ◌∙◌}
 use Rattle.batch_summary.specs.declared.tally.Tally.{Tally}
 use Rattle.deck_reader.specs.Batch.{batch}
-use Rattle.batch_runner.proofs.Results.{same_error}
+use Rattle.batch_intake.proofs.Results.{same_error}
 use Rattle.batch_runner.proofs.Serving.{all_too_large, closing_is, large_cause, not_risen, tally_is, write_cause}
 use Rattle.batch_runner.proofs.listing.tally_listing.Goals as goal
 

@@ -1,6 +1,6 @@
 use Rattle.std.proofs.Common.{◌∙◌}
 use Rattle.deck_reader.specs.Batch.{batch}
-use Rattle.batch_runner.proofs.Results.{at_err, same_error}
+use Rattle.batch_intake.proofs.Results.{at_err, same_error}
 use Rattle.batch_runner.proofs.Serving.{closing_cut, closing_done, closing_is, large_cause, read_cause, served_cut, write_cause}
 use Rattle.batch_runner.proofs.listing.write_listing.Goals as goal
 

@@ -1,10 +1,10 @@
 use Rattle.std.proofs.Common.{List, ℕ, refl, subst}
 use Rattle.std.specs.Io.KnownBytes.{Appends}
 use Rattle.batch_listing.specs.Writing.{AppendsPrefix}
-use Rattle.batch_runner.specs.declared.halt.Halt.TheVariants.{WriteFault}
+use Rattle.batch_intake.specs.declared.halt.Halt.TheVariants.{WriteFault}
 use Rattle.batch_runner.specs.Outcome.{HasHalted, outside}
 use Rattle.batch_runner.proofs.Progressing.{front_halted, heading_halted, opened_so}
-use Rattle.batch_runner.proofs.Results.{at_this, some_at}
+use Rattle.batch_intake.proofs.Results.{at_this, some_at}
 use Rattle.batch_runner.proofs.listing.write_sections.Goals as goal
 
 pub returns-in_err-opened-clause-err : goal.returns-in_err-opened-clause-err

@@ -1,10 +1,10 @@
 use Rattle.std.proofs.Common.{◌≤◌, ◌∙◌, ap, subst, sym}
 use Rattle.std.proofs.lemmas.List.{length-map}
-use Rattle.batch_runner.specs.declared.intake.Intake.{Intake}
+use Rattle.batch_intake.specs.declared.intake.Intake.{Intake}
 use Rattle.batch_runner.specs.ProgressLaws.{goes_further}
 use Rattle.batch_runner.specs.Progress.{progress}
 use Rattle.batch_runner.proofs.Progressing.{all_so, begun_so, stopped_so}
-use Rattle.batch_runner.proofs.Results.{at_some}
+use Rattle.batch_intake.proofs.Results.{at_some}
 use Rattle.batch_runner.proofs.running.run_jobs.Goals as goal
 
 pub returns-in_default-clause-some : goal.returns-in_default-clause-some

@@ -4,7 +4,7 @@ use Rattle.std.proofs.lemmas.Iterator.{YieldsList-from_slice}
 use Rattle.std.proofs.lemmas.Iterator.Search.{any_from_yields_List}
 use Rattle.record_classes.specs.Classes.{has, set_of}
 use Rattle.algolw_typing.specs.Types.{is_empty}
-use Rattle.machine_calls.proofs.Sets.{place, fits_is, empty_is, not_empty}
+use Rattle.stack_code.proofs.Sets.{place, fits_is, empty_is, not_empty}
 use Rattle.machine_calls.proofs.comparing.share_one.Goals as goal
 
 pub returns-else-is_empty : goal.returns-else-is_empty

@@ -4,7 +4,7 @@ use Rattle.cell_store.specs.declared.cells.Procedure.{Procedure}
 use Rattle.stack_code.specs.CodeView.{CodeView}
 use Rattle.machine_rows.specs.Seen.{IsClear, machine_of}
 use Rattle.machine_calls.specs.Found as found
-use Rattle.machine_calls.specs.Rows.{Goes, Lands}
+use Rattle.machine_rows.specs.Rows.{Goes, Lands}
 use Rattle.machine_calls.proofs.Compared.{call_is}
 use Rattle.machine_calls.proofs.Preparing.{through_there, the_procedure}
 use Rattle.machine_calls.proofs.formal_calls.call_through.Goals as goal

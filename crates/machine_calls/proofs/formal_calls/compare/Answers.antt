@@ -3,7 +3,7 @@ use Rattle.std.specs.Prelude.{IsSome, slice_index_or}
 use Rattle.cell_store.specs.declared.cells.Wide.TheVariants as wide
 use Rattle.stack_code.specs.CodeView.{CodeView}
 use Rattle.machine_rows.specs.Seen.{IsClear}
-use Rattle.machine_calls.specs.Rows.{Goes, Lands}
+use Rattle.machine_rows.specs.Rows.{Goes, Lands}
 use Rattle.machine_calls.proofs.Compared.{call_is, called_there, called_by, called_row, called_one}
 use Rattle.machine_calls.proofs.Named.{source_thunk_fits}
 use Rattle.machine_calls.proofs.formal_calls.compare.Goals as goal

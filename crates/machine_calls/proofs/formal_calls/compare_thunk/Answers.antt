@@ -1,6 +1,6 @@
 use Rattle.std.proofs.Common.{sym, subst, rules, tests}
 use Rattle.machine_rows.specs.Seen.{IsClear}
-use Rattle.machine_calls.specs.Rows.{Goes, Lands}
+use Rattle.machine_rows.specs.Rows.{Goes, Lands}
 use Rattle.machine_calls.proofs.Compared.{bare_use, with_heads, none_by, some_by}
 use Rattle.machine_calls.proofs.formal_calls.compare_thunk.Goals as goal
 

@@ -3,7 +3,7 @@ use Rattle.std.specs.Prelude.{IsSome, option_copied, slice_get}
 use Rattle.stack_code.specs.CodeView.{CodeView}
 use Rattle.machine_rows.specs.Seen.{IsClear}
 use Rattle.machine_calls.specs.Found as found
-use Rattle.machine_calls.specs.Rows.{Goes, Lands}
+use Rattle.machine_rows.specs.Rows.{Goes, Lands}
 use Rattle.machine_calls.proofs.Ending.{last_of}
 use Rattle.machine_calls.proofs.Preparing.{place_there, placed_back, formal_there, place_typed, place_enters, place_steps, place_over}
 use Rattle.machine_calls.proofs.formal_calls.place_back.Goals as goal

@@ -5,7 +5,7 @@ use Rattle.stack_code.specs.CodeView.{CodeView}
 use Rattle.stack_code.specs.Limits.{FormalTypeRuns, ReadingRuns}
 use Rattle.machine_rows.specs.Seen.{IsClear}
 use Rattle.machine_calls.specs.Found as found
-use Rattle.machine_calls.specs.Rows.{Goes, Lands}
+use Rattle.machine_rows.specs.Rows.{Goes, Lands}
 use Rattle.machine_calls.proofs.Compared.{call_is}
 use Rattle.machine_calls.proofs.Preparing.{prepared, prepared_formal, prepared_text, prepared_by}
 use Rattle.machine_calls.proofs.formal_calls.prepare.Goals as goal

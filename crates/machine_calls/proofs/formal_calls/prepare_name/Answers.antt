@@ -1,8 +1,8 @@
 use Rattle.std.proofs.Common.{◌+◌, sym, ap, ◌∙◌, subst}
 use Rattle.stack_code.specs.Table as table
 use Rattle.machine_rows.specs.Seen.{IsClear}
-use Rattle.machine_calls.specs.declared.next.Next.TheVariants as comes
-use Rattle.machine_calls.specs.Rows.{Goes}
+use Rattle.machine_rows.specs.declared.next.Next.TheVariants as comes
+use Rattle.machine_rows.specs.Rows.{Goes}
 use Rattle.machine_calls.proofs.Handing.{name_handed, hand_some, ready_done}
 use Rattle.machine_calls.proofs.formal_calls.prepare_name.Goals as goal
 

@@ -1,5 +1,5 @@
 use Rattle.std.proofs.Common.{arith}
-use Rattle.machine_calls.proofs.Entering.{aside_within, aside_allowed, aside_done}
+use Rattle.machine_rows.proofs.Entering.{aside_within, aside_allowed, aside_done}
 use Rattle.machine_calls.proofs.texts.enter_aside.Goals as goal
 
 pub overflow_add-frame : goal.overflow_add-frame

@@ -6,8 +6,8 @@ use Rattle.cell_store.specs.declared.entries.Refusal.{Refusal}
 use Rattle.value_ops.specs.declared.faults.Limit.{Limit}
 use Rattle.value_ops.specs.declared.faults.Limit.TheVariants as limit
 use Rattle.machine_rows.specs.declared.held.Halt.TheVariants as halt
-use Rattle.machine_calls.specs.declared.next.Next.TheVariants as comes
-use Rattle.machine_calls.specs.Rows.{Goes}
+use Rattle.machine_rows.specs.declared.next.Next.TheVariants as comes
+use Rattle.machine_rows.specs.Rows.{Goes}
 use Rattle.machine_calls.proofs.Thunks.{use_row}
 use Rattle.machine_calls.proofs.Uses.{step_answer, use_stopped, use_unfit, use_limited, use_refused, use_within, use_done}
 use Rattle.machine_calls.proofs.texts.use_thunk.Goals as goal

@@ -4,9 +4,9 @@ use Rattle.cell_store.specs.Stores.{Store}
 use Rattle.stack_code.specs.Table.{turn_or_exit}
 use Rattle.machine_rows.specs.Seen.{machine_of}
 use Rattle.cell_store.specs.declared.cells.Word.TheVariants as held
-use Rattle.machine_calls.specs.declared.next.Next.{Next}
-use Rattle.machine_calls.specs.declared.next.Next.TheVariants as comes
-use Rattle.machine_calls.specs.Rows.{Goes}
+use Rattle.machine_rows.specs.declared.next.Next.{Next}
+use Rattle.machine_rows.specs.declared.next.Next.TheVariants as comes
+use Rattle.machine_rows.specs.Rows.{Goes}
 use Rattle.machine_control.proofs.Entries.{cut_cells_stand}
 use Rattle.machine_control.proofs.HeldRows.{loop_left}
 use Rattle.machine_control.proofs.loops.leave_loop.Goals as goal

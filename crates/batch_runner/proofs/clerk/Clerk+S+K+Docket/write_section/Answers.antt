@@ -1,11 +1,11 @@
 use Rattle.std.proofs.Common.{◌+◌, ◌∷◌, Some, map, drop, refl, sym, ap, ◌∙◌}
 use Rattle.std.proofs.lemmas.List.{drop_more}
 use Rattle.deck_reader.specs.JobView.{JobView}
-use Rattle.batch_runner.specs.declared.halt.Halt.TheVariants.{NoMemory, WriteFault}
+use Rattle.batch_intake.specs.declared.halt.Halt.TheVariants.{NoMemory, WriteFault}
 use Rattle.batch_runner.specs.Outcome.{outside}
 use Rattle.batch_runner.specs.Progress.{GoesOn, progress}
 use Rattle.batch_runner.proofs.Progressing.{left_of, halts_next, stops_anywhere, writes_next}
-use Rattle.batch_runner.proofs.Results.{at_this}
+use Rattle.batch_intake.proofs.Results.{at_this}
 use Rattle.batch_runner.proofs.clerk.Clerk+S+K+Docket.write_section.Goals as goal
 
 pub returns-in_err-section-clause-err : goal.returns-in_err-section-clause-err

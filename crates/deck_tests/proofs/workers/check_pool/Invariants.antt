@@ -1,0 +1,7 @@
+use Rattle.deck_tests.proofs.workers.check_pool.Given as goal
+
+abbrev pub ghosts-check_left-B-QueueBrand : goal.ghosts-check_left-B-QueueBrand
+ghosts-check_left-B-QueueBrand g a = record { table = a.fresh.ring.table.shared.table_id }
+
+abbrev pub ghosts-check_left-B-Ledger : goal.ghosts-check_left-B-Ledger
+ghosts-check_left-B-Ledger g a = record { name = a.fresh.blank.name; parts = a.fresh.blank.parts }

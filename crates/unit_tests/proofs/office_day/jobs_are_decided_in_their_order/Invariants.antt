@@ -1,0 +1,7 @@
+use Rattle.unit_tests.proofs.office_day.jobs_are_decided_in_their_order.Given as goal
+
+abbrev pub ghosts-day-B-QueueBrand : goal.ghosts-day-B-QueueBrand
+ghosts-day-B-QueueBrand g a = record { table = a.fresh.ring.table.shared.table_id }
+
+abbrev pub ghosts-day-B-Ledger : goal.ghosts-day-B-Ledger
+ghosts-day-B-Ledger g a = record { name = a.fresh.blank.name; parts = a.fresh.blank.parts }

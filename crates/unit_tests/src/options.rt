@@ -1,0 +1,146 @@
+use crate::rows::{unsigned, words};
+use command_words::{Order, WordsError, read_words};
+use std::alloc::{AllocError, Global};
+use std::process::Abort;
+
+/// The words of a line with a blank between them. An empty line has none.
+fn words_of(alloc: Global, line: &str) -> Result<Vec<String>, AllocError> {
+    let mut words = Vec::new(alloc);
+    if !line.is_empty() {
+        for word in line.split(' ') {
+            words.push(String::from_str(alloc, word)?)?;
+        }
+    }
+    Ok(words)
+}
+
+fn read(alloc: Global, line: &str) -> Result<Order, WordsError> {
+    let Ok(words) = words_of(alloc, line) else {
+        return Err(WordsError::NoMemory);
+    };
+    read_words(alloc, words.as_slice())
+}
+
+/// A line, and behind the bar the workers and the queue of its order, in front of which stand the seed and the jobs of one that
+/// makes a batch.
+const ORDERS: &str = "\
+|4 8
+--workers 1|1 8
+--workers=16|16 8
+--queue 1|4 1
+--queue=64|4 64
+--workers=1 --queue 64|1 64
+--queue 64 --workers=1|1 64
+--workers 0000000016|16 8
+--queue=007|4 7
+--make 7 --jobs 1|7 1 4 8
+--jobs=2 --make 7|7 2 4 8
+--make=0 --jobs=2000|0 2000 4 8
+--make 4294967295 --jobs 2|4294967295 2 4 8
+--make 1971 --jobs 2000 --workers 16 --queue 1|1971 2000 16 1
+--queue=2 --jobs 3 --workers=1 --make 0000000004|4 3 1 2
+";
+
+/// The order of these numbers.
+fn order_of(rt: &impl Abort, numbers: &str) -> Order {
+    match words(numbers) {
+        [workers, queue, "", ..] => Order::Run {
+            workers: unsigned(rt, workers),
+            queue: unsigned(rt, queue),
+        },
+        [seed, jobs, workers, queue, ..] => Order::Make {
+            seed: unsigned(rt, seed),
+            jobs: unsigned(rt, jobs),
+            workers: unsigned(rt, workers),
+            queue: unsigned(rt, queue),
+        },
+    }
+}
+
+/// Whether a line is answered so.
+fn answers(alloc: Global, line: &str, wanted: Result<Order, WordsError>) -> bool {
+    read(alloc, line) == wanted
+}
+
+#[test]
+fn orders(rt: HostRuntime) {
+    for row in ORDERS.lines() {
+        let (line, numbers) = row.split_once('|').unwrap_or((row, ""));
+        let wanted = Ok(order_of(&rt, numbers));
+        assert!(rt; answers(rt.alloc(), line, wanted), "{row}");
+    }
+}
+
+/// A line, and what is wrong with it: a value that isn't of its range or no number, an option without its value, an option given
+/// twice, one of two options that stand together, or words that are no option.
+const REFUSALS: &str = "\
+--workers 0|value
+--workers 17|value
+--workers=00000000004|value
+--workers=4294967297|value
+--workers four|value
+--workers +4|value
+--workers -4|value
+--workers=-4|value
+--workers 4.|value
+--workers= |value
+--workers=|value
+--workers |value
+--workers==4|value
+--workers 0x4|value
+--workers 4_|value
+--queue 0|value
+--queue 65|value
+--queue -|value
+--make 4294967296 --jobs 1|value
+--make 99999999999 --jobs 1|value
+--make -1 --jobs 1|value
+--make 7 --jobs 0|value
+--make 7 --jobs 2001|value
+--make 7 --jobs|value
+--workers|no value
+--queue 3 --workers|no value
+--workers --queue 3|no value
+--queue 3 --queue 3|twice
+--workers=2 --workers=2|twice
+--workers=2 --workers 3|twice
+--make 7 --jobs 1 --make 7|twice
+--make 7|alone
+--jobs 1|alone
+--jobs=1 --queue 3|alone
+4|no option
+workers 4|no option
+-workers 4|no option
+-w 4|no option
+-w4|no option
+---workers 4|no option
+--worker 4|no option
+--WORKERS 4|no option
+--workers4|no option
+--workers:4|no option
+--threads 4|no option
+--accounts=1|no option
+--workers 4 5|no option
+--workers 4 |no option
+ --workers 4|no option
+-|no option
+--|no option
+-- --workers 4|no option
+--workers 4 --|no option
+--workers -- 4|no option
+--help|no option
+--workers 4 --help|no option
+-h|no option
+help|no option
+--version|no option
+-V|no option
+";
+
+#[test]
+fn refusals(rt: HostRuntime) {
+    for row in REFUSALS.lines() {
+        let (line, _) = row.split_once('|').unwrap_or((row, ""));
+        let wanted = Err(WordsError::BadWords);
+        assert!(rt; answers(rt.alloc(), line, wanted), "{row}");
+    }
+}
