@@ -33,7 +33,8 @@ pub fn decks_have_their_faults()
     ensures { DecksHaveTheirFaults }
 {}
 
-/// Each deck of a table is a program with exactly the names, record classes and statements that stand beside it.
+/// Each deck of a table is a program with exactly the names, record classes and statements that stand beside it,
+/// whose outermost block has statements that speak of the names and assign the types that stand there.
 pub fn decks_have_their_parts()
     ensures { DecksHaveTheirParts }
 {}

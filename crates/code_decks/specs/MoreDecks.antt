@@ -97,7 +97,7 @@ deep_jumps_jobs =
     plain (codes "BEGIN INTEGER K; PROCEDURE A; GOTO L;" ∷ codes "PROCEDURE B; A; PROCEDURE C; B; PROCEDURE D; C; PROCEDURE E; D;" ∷ codes "PROCEDURE F; E; PROCEDURE G; F; PROCEDURE H; G; PROCEDURE I; H;" ∷ codes "PROCEDURE J; I; PROCEDURE M; J; PROCEDURE N; M; PROCEDURE O; N;" ∷ codes "PROCEDURE P; O; PROCEDURE Q; P;" ∷ codes "K := 0; L: K := K + 1; IF K < 140 THEN Q; WRITE(K); ASSERT FALSE END." ∷ [])
     ∷ []
 
--- the decks of the tables of programs and of sections
+-- decks of the tables of programs and of sections
 abbrev pub program_jobs : List Job
 program_jobs =
     plain (codes "BEGIN INTEGER I; PROCEDURE P (INTEGER X; LOGICAL Y);" ∷ codes "BEGIN INTEGER Z; Z := X END;" ∷ codes "FOR K := 1 UNTIL 2 DO BEGIN INTEGER M; M := K END;" ∷ codes "L: P(1, TRUE) END." ∷ [])

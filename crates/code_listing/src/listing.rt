@@ -14,7 +14,7 @@ use value_ops::{Diagnostic, Place};
 const NOWHERE: Place = Place { card: 0, column: 0 };
 
 /// The listing of a job.
-pub(crate) fn job_listing(alloc: Global, job: &Job) -> Result<String, AllocError> {
+pub fn job_listing(alloc: Global, job: &Job) -> Result<String, AllocError> {
     let mut out = String::new(alloc);
     let number = job.number;
     write!(out, "JOB {number}")?;

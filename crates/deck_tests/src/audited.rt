@@ -1,5 +1,6 @@
 //! The audit, to which results of other jobs are brought.
 
+use crate::cases::see;
 use crate::reading::{jobs_of, read, result_of};
 use account_book::Book;
 use batch_listing::{Audit, heading};
@@ -141,9 +142,9 @@ fn check_listing(
     let jobs = jobs_of(alloc, batch)?;
     let mut desk = None;
     let listing = listing_of(alloc, &mut audit, &mut desk, jobs.as_slice(), bring)?;
-    assert_eq!(rt; listing.as_slice(), FOUR_LISTING);
-    assert_eq!(rt; audit.reruns(), reruns);
-    assert_eq!(rt; steps_at(&desk), steps);
+    see(rt, "the listing", listing.as_slice() == FOUR_LISTING);
+    see(rt, "how many jobs it runs", audit.reruns() == reruns);
+    see(rt, "the steps of the last", steps_at(&desk) == steps);
     Ok(())
 }
 

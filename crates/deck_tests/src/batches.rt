@@ -1,5 +1,6 @@
 //! Batches with their listings, and what else the top call writes.
 
+use crate::cases::see;
 use crate::gates::{TIGHT, TIGHT_LISTING};
 use crate::runs::{AMPLE, Outside, WIDE, run};
 use batch_monitor::Status;
@@ -465,10 +466,11 @@ fn the_most_jobs_are_read_and_one_more_are_too_many(rt: HostRuntime) -> Result<(
     let alloc = rt.alloc();
     let mut heads = "%JOB A,ADA\n".repeat(alloc, 2_000)?;
     let most = run(&rt, alloc, "--workers 1", heads.as_bytes(), &WIDE)?;
-    assert_eq!(rt; most.status, Status::Done);
+    see(&rt, "the most jobs", most.status == Status::Done);
     heads.push_str("%job")?;
     let more = run(&rt, alloc, "--workers 1", heads.as_bytes(), &WIDE)?;
-    assert_eq!(rt; more.status, Status::TooLarge);
-    assert!(rt; most.written.starts_with(more.written.as_slice()));
+    see(&rt, "one more", more.status == Status::TooLarge);
+    let prefix = most.written.starts_with(more.written.as_slice());
+    see(&rt, "what is written of one more", prefix);
     Ok(())
 }

@@ -107,6 +107,18 @@ fn row_for(length: usize) -> Result<&'static str, Fail> {
     Err(Fail::from("the batch is longer"))
 }
 
+/// Adds a card of the deck, with its number and its count.
+fn push_card(
+    alloc: Global,
+    listing: &mut String,
+    number: u32,
+    count: char,
+    card: &str,
+) -> Result<(), AllocError> {
+    let line = format!(in alloc; "{number:>4}        {count}  {card}\n")?;
+    listing.push_str(line.as_str())
+}
+
 /// Adds the cards of the deck of a cut batch, each with its number and its count.
 fn push_cards(
     alloc: Global,
@@ -122,28 +134,22 @@ fn push_cards(
         }
         number = number.wrapping_add(1);
         let count = counts.next().unwrap_or(' ');
-        let card = card.trim_end();
-        let line = format!(in alloc; "{number:>4}        {count}  {card}\n")?;
-        listing.push_str(line.as_str())?;
+        push_card(alloc, listing, number, count, card.trim_end())?;
     }
     Ok(())
 }
 
-/// The listing of a cut batch, by its row.
-fn listing_by(alloc: Global, cut: &str, row: &str) -> Result<String, Fail> {
-    let Some((counts, text)) = row.split_once('/') else {
-        return Err(Fail::from("a row has counts"));
-    };
-    let lines = text.replace(alloc, '@', "\n")?;
-    let mut listing = String::from_str(alloc, "ALGOL W BATCH\n\n")?;
-    if counts == "-" {
-        listing.push_str(lines.as_str())?;
-        return Ok(listing);
+/// Adds lines with marks between them.
+fn push_lines(listing: &mut String, lines: &str) -> Result<(), AllocError> {
+    for mark in lines.chars() {
+        listing.push(if mark == '@' { '\n' } else { mark })?;
     }
-    listing.push_str("JOB 1 X ADA\n")?;
-    push_cards(alloc, &mut listing, cut, counts)?;
-    listing.push_str(lines.as_str())?;
-    let Some((_, charge)) = text.rsplit_once(' ') else {
+    Ok(())
+}
+
+/// Adds the closing lines, behind a section in whose last line the charge stands last.
+fn push_closing(alloc: Global, listing: &mut String, section: &str) -> Result<(), Fail> {
+    let Some((_, charge)) = section.rsplit_once(' ') else {
         return Err(Fail::from("a row ends with the charge"));
     };
     let left = 1_000_u32.saturating_sub(charge.parse()?);
@@ -151,6 +157,29 @@ fn listing_by(alloc: Global, cut: &str, row: &str) -> Result<String, Fail> {
         "\n\nCLOSING BALANCES\nADA OPENING 1000 CHARGES {charge} CLOSING {left}\nSTRAY CARDS 0\n"
     )?;
     listing.push_str(closing.as_str())?;
+    Ok(())
+}
+
+/// Adds the listing of a cut batch, by its row.
+fn push_listing(alloc: Global, listing: &mut String, cut: &str, row: &str) -> Result<(), Fail> {
+    let Some((counts, text)) = row.split_once('/') else {
+        return Err(Fail::from("a row has counts"));
+    };
+    listing.push_str("ALGOL W BATCH\n\n")?;
+    if counts == "-" {
+        push_lines(listing, text)?;
+        return Ok(());
+    }
+    listing.push_str("JOB 1 X ADA\n")?;
+    push_cards(alloc, listing, cut, counts)?;
+    push_lines(listing, text)?;
+    push_closing(alloc, listing, text)
+}
+
+/// The listing of a cut batch, by its row.
+fn listing_by(alloc: Global, cut: &str, row: &str) -> Result<String, Fail> {
+    let mut listing = String::new(alloc);
+    push_listing(alloc, &mut listing, cut, row)?;
     Ok(listing)
 }
 

@@ -1,5 +1,6 @@
 //! Sources and sinks that fail at each place in turn, while a batch is run whose second job is refused early.
 
+use crate::cases::{see, see_in};
 use crate::gates::{TIGHT, TIGHT_LISTING};
 use crate::runs::{AMPLE, Outside, run};
 use batch_monitor::Status;
@@ -39,8 +40,8 @@ fn written_by<R: Threads + Wait + Sync + Abort>(
     let written = run.written.as_slice();
     let whole = written.len() == listing.len();
     let due = if whole { Status::Done } else { fault };
-    assert_eq!(rt; run.status, due, "{words}");
-    assert!(rt; listing.starts_with(written), "{words}");
+    see(rt, words, run.status == due);
+    see(rt, words, listing.starts_with(written));
     Ok(written.len())
 }
 
@@ -75,7 +76,7 @@ fn a_stopped_source_leaves_a_prefix_of_the_listing_of_what_it_gave(
         let given = listing_of(&rt, alloc, TIGHT, count)?;
         let listing = given.as_slice();
         let least = written(&rt, alloc, count, &outside, Status::ReadFault, listing)?;
-        assert!(rt; least < listing.len(), "{count}");
+        see_in(&rt, count, AMPLE.piece, least < listing.len());
     }
     Ok(())
 }
@@ -93,7 +94,7 @@ fn a_stopped_sink_has_just_what_it_took(rt: HostRuntime) -> Result<(), Fail> {
             Status::WriteFault,
             TIGHT_LISTING,
         )?;
-        assert_eq!(rt; least, count);
+        see_in(&rt, count, AMPLE.piece, least == count);
         if count == TIGHT_LISTING.len() {
             return Ok(());
         }
@@ -120,7 +121,7 @@ fn each_read_may_fail(rt: HostRuntime) -> Result<(), Fail> {
             let listing = given.as_slice();
             let least = written(&rt, alloc, case, &outside, Status::ReadFault, listing)?;
             let ended = case.saturating_sub(1).saturating_mul(piece) >= TIGHT.len();
-            assert_eq!(rt; least == listing.len(), ended, "{before}, by {piece}");
+            see_in(&rt, case, piece, (least == listing.len()) == ended);
             if ended {
                 break;
             }
@@ -141,10 +142,8 @@ fn each_write_may_fail(rt: HostRuntime) -> Result<(), Fail> {
             let case = before as usize;
             let fault = Status::WriteFault;
             let least = written(&rt, rt.alloc(), case, &outside, fault, TIGHT_LISTING)?;
-            assert!(rt;
-                case <= least && least <= case.saturating_mul(piece),
-                "{before}, by {piece}"
-            );
+            let most = case.saturating_mul(piece);
+            see_in(&rt, case, piece, case <= least && least <= most);
             if least == TIGHT_LISTING.len() {
                 break;
             }
@@ -164,7 +163,7 @@ fn a_sink_takes_all_a_byte_at_a_time(rt: HostRuntime) -> Result<(), Fail> {
         Status::WriteFault,
         TIGHT_LISTING,
     )?;
-    assert_eq!(rt; least, TIGHT_LISTING.len());
+    see(&rt, "all is taken", least == TIGHT_LISTING.len());
     Ok(())
 }
 
@@ -184,8 +183,9 @@ fn a_batch_of_one_sum_may_be_stopped(rt: HostRuntime) -> Result<(), Fail> {
     };
     let read = run(&rt, alloc, "", SUM, &outside)?;
     let listing = listing_of(&rt, alloc, SUM, 30)?;
-    assert_eq!(rt; read.status, Status::ReadFault);
-    assert!(rt; listing.starts_with(read.written.as_slice()));
+    see(&rt, "30 bytes", read.status == Status::ReadFault);
+    let prefix = listing.starts_with(read.written.as_slice());
+    see(&rt, "a prefix", prefix);
     let outside = Outside {
         sink_stop: 20,
         ..AMPLE

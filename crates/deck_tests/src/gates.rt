@@ -1,6 +1,7 @@
 //! Gates that the workers pass, and what they show of the workers.
 ghost use Rattle.std.specs.Prelude.{◌≤◌, length};
 
+use crate::cases::see;
 use crate::runs::{WIDE, run_past, words_of};
 use batch_io::{Gate, MemSink, ReadFailed, Source};
 use batch_monitor::{Status, run_monitor};
@@ -109,9 +110,9 @@ BEGIN WRITE(2) END.
 fn two_jobs_are_under_way_at_once(rt: HostRuntime) -> Result<(), Fail> {
     let gate = Watching::new(2, 1);
     let run = run_past(&rt, rt.alloc(), "--workers 2", TWO, &WIDE, &gate)?;
-    assert_eq!(rt; run.status, Status::Done);
-    assert!(rt; !gate.gave_up.load(Ordering::SeqCst));
-    assert!(rt; !gate.audited.load(Ordering::SeqCst));
+    see(&rt, "the end", run.status == Status::Done);
+    see(&rt, "both at once", !gate.gave_up.load(Ordering::SeqCst));
+    see(&rt, "no audit", !gate.audited.load(Ordering::SeqCst));
     Ok(())
 }
 
@@ -157,7 +158,7 @@ impl Gate for Counting {
 fn check_counts(rt: &impl Abort, counts: &[AtomicU32], words: &str) {
     for (job, count) in counts.iter().enumerate() {
         let due = u32::from(job > 0);
-        assert_eq!(rt; count.load(Ordering::SeqCst), due, "{words}: {job}");
+        see(rt, words, count.load(Ordering::SeqCst) == due);
     }
 }
 
@@ -192,7 +193,7 @@ fn each_job_is_run_by_a_worker(rt: HostRuntime) -> Result<(), Fail> {
         run.check(&rt, words, Status::Done, SUMMARY_OF_200);
         check_counts(&rt, gate.entered.as_slice(), words);
         check_counts(&rt, gate.left.as_slice(), words);
-        assert_eq!(rt; gate.audited.load(Ordering::SeqCst), 0, "{words}");
+        see(&rt, words, gate.audited.load(Ordering::SeqCst) == 0);
     }
     Ok(())
 }
@@ -264,11 +265,9 @@ fn reads_while_running(rt: HostRuntime) -> Result<(), Fail> {
     let words = words_of(rt.alloc(), "--workers 2")?;
     let words = words.as_slice();
     let status = run_monitor(&rt, rt.alloc(), words, &mut source, &mut sink, &gate);
-    assert_eq!(rt; status, Status::Done);
-    assert!(rt;
-        source.left > 0,
-        "no worker ended the job while the batch was read"
-    );
-    assert!(rt; sink.bytes().ends_with(b"STRAY CARDS 0\n"));
+    see(&rt, "the end", status == Status::Done);
+    see(&rt, "a worker ends the job in time", source.left > 0);
+    let whole = sink.bytes().ends_with(b"STRAY CARDS 0\n");
+    see(&rt, "the last line", whole);
     Ok(())
 }

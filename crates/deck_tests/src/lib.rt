@@ -1,4 +1,5 @@
-//! The tests of all that runs decks: of one job, of the workers, of the audit, and of whole batches.
+//! The tests of all that runs decks: of the workers, of the audit, and of whole batches. Decks that are tried alone are jobs of
+//! the stored run of `monitor`.
 #![tactic(auto)]
 
 #[cfg(test)]
@@ -6,22 +7,24 @@ mod audited;
 #[cfg(test)]
 mod batches;
 #[cfg(test)]
-mod cut_batches;
+mod call_code;
 #[cfg(test)]
-mod decks;
+mod cases;
+#[cfg(test)]
+mod cut_batches;
 #[cfg(test)]
 mod faults;
 #[cfg(test)]
 mod gates;
 #[cfg(test)]
-mod hostile_decks;
-#[cfg(test)]
-mod program_parts;
+mod listings;
 #[cfg(test)]
 mod reading;
 #[cfg(test)]
 mod runs;
 #[cfg(test)]
-mod sections;
+mod statement_code;
+#[cfg(test)]
+mod value_code;
 #[cfg(test)]
 mod workers;

@@ -1,11 +1,10 @@
-//! How the tests read batches and decks.
+//! How the tests read batches and run their jobs.
 ghost use Rattle.std.specs.Prelude.{◌≤◌, IfOk, length};
 
 use deck_reader::{Batch, FeedError, Job, Reader};
 use job_runner::{Desk, Ended, run_job};
 use std::alloc::{AllocError, Global};
 use std::sync::Arc;
-use std::test::Fail;
 
 /// The batch that these bytes are.
 pub(crate) fn read(alloc: Global, input: &[u8]) -> Result<Batch, FeedError>
@@ -33,27 +32,4 @@ pub(crate) fn result_of(alloc: Global, job: &Arc<Job>) -> Result<Option<Ended>, 
     let mut desk = Desk::new(alloc)?;
     let ended = run_job(alloc, &mut desk, job)?;
     Ok(Some(ended))
-}
-
-/// Adds a card, or as many of the same as are said before a mark, `$`.
-fn push_cards(batch: &mut String, cards: &str) -> Result<(), Fail> {
-    let (times, card) = match cards.split_once('$') {
-        Some((times, card)) => (times.parse::<u32>()?, card),
-        None => (1, cards),
-    };
-    for _ in 0..times {
-        batch.push_str(card)?;
-        batch.push('\n')?;
-    }
-    Ok(())
-}
-
-/// The job of a deck. A mark, `@`, stands between its cards.
-pub(crate) fn job_of(alloc: Global, deck: &str) -> Result<Option<Job>, Fail> {
-    let mut batch = String::from_str(alloc, "%ACCOUNT ADA 1\n%JOB X,ADA\n")?;
-    for cards in deck.split('@') {
-        push_cards(&mut batch, cards)?;
-    }
-    let batch = read(alloc, batch.as_bytes())?;
-    Ok(batch.jobs.into_vec().pop())
 }

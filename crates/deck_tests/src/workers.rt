@@ -1,6 +1,7 @@
 //! Workers, and an office at which they settle their tickets.
 ghost use Rattle.std.specs.Prelude.{◌≡◌, ◌≤◌, IfOk, ⊤, length};
 
+use crate::cases::see;
 use crate::reading::{jobs_of, read, result_of};
 use account_book::Book;
 use batch_io::OpenGate;
@@ -88,11 +89,11 @@ fn one_worker_ends_both_jobs(rt: HostRuntime) -> Result<(), Fail> {
     let opening = open_batch(alloc, TWO)?;
     let fresh = FreshQueue::new(alloc, 1)?;
     let alone = worked_alone::<Brand, HostRuntime>(&rt, alloc, fresh, opening, &mut desk)?;
-    assert!(rt; alone.over);
-    assert_eq!(rt; alone.first, Standing::Ended);
-    assert_eq!(rt; alone.second, Standing::Ended);
-    assert_eq!(rt; alone.owed, 0);
-    assert_eq!(rt; alone.reserved, 0);
+    see(&rt, "over", alone.over);
+    see(&rt, "the first", alone.first == Standing::Ended);
+    see(&rt, "the second", alone.second == Standing::Ended);
+    see(&rt, "nothing owed", alone.owed == 0);
+    see(&rt, "nothing reserved", alone.reserved == 0);
     Ok(())
 }
 
@@ -146,9 +147,9 @@ fn check_left<B: QueueBrand + Send + Sync, R: Threads + Wait + Sync + Abort>(
     let caller = Decides { stops };
     let (pooled, _caller) = run_pool(rt, alloc, office, queue, pass, desks, &OpenGate, caller);
     let gathered = gather(rt, pooled);
-    assert_eq!(rt; gathered.reserved, left);
-    assert_eq!(rt; gathered.returned, 0);
-    assert_eq!(rt; gathered.left, left);
+    see(rt, "reserved", gathered.reserved == left);
+    see(rt, "returned", gathered.returned == 0);
+    see(rt, "left", gathered.left == left);
     Ok(())
 }
 
@@ -219,23 +220,25 @@ fn first_ends<B: QueueBrand, R: Wait + Abort>(
     own: Ended,
     other: Ended,
 ) -> Result<(), Fail> {
-    assert_eq!(rt; office.admit(rt, queue), Admitted::Accepted { job: 1 });
+    let first = Admitted::Accepted { job: 1 };
+    see(rt, "the first", office.admit(rt, queue) == first);
     let waits = Admitted::Waits {
         job: 2,
         low: 50,
         high: 145,
     };
-    assert_eq!(rt; office.admit(rt, queue), waits);
+    see(rt, "the second", office.admit(rt, queue) == waits);
     let Some(ticket) = queue.take(rt, pass) else {
         return Err(Fail::from("a ticket"));
     };
     let Err(stranger) = office.settle(pass, ticket, other) else {
         return Err(Fail::from("the second job's result doesn't end the first"));
     };
-    assert_eq!(rt; stranger.kept, Standing::Running);
-    assert_eq!(rt; pass.owed(), 100);
-    assert!(rt; office.settle(pass, stranger.ticket, own).is_ok());
-    assert_eq!(rt; pass.owed(), 0);
+    see(rt, "it goes on", stranger.kept == Standing::Running);
+    see(rt, "its reserve is owed", pass.owed() == 100);
+    let settled = office.settle(pass, stranger.ticket, own).is_ok();
+    see(rt, "its own result", settled);
+    see(rt, "nothing is owed", pass.owed() == 0);
     Ok(())
 }
 
@@ -256,10 +259,12 @@ fn check_waiting<B: QueueBrand, R: Wait + Abort>(
     let mut office = Office::new(alloc, opening.book, put, settled)?;
     let_in(&mut office, opening.jobs.as_slice())?;
     first_ends(rt, &mut office, &queue, &mut pass, own, other)?;
-    assert_eq!(rt; office.admit(rt, &queue), Admitted::Accepted { job: 2 });
-    assert_eq!(rt; office.admit(rt, &queue), Admitted::NoneArrived);
-    assert_eq!(rt; hand_out(&mut office), Some(1));
-    assert_eq!(rt; hand_out(&mut office), None);
+    let second = Admitted::Accepted { job: 2 };
+    see(rt, "then the second", office.admit(rt, &queue) == second);
+    let none = Admitted::NoneArrived;
+    see(rt, "no other", office.admit(rt, &queue) == none);
+    see(rt, "the first section", hand_out(&mut office) == Some(1));
+    see(rt, "no other section", hand_out(&mut office).is_none());
     Ok(())
 }
 

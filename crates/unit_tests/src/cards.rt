@@ -1,4 +1,4 @@
-use crate::rows::{columns, unsigned, words};
+use crate::rows::{columns, see, unsigned, words};
 use deck_reader::{Batch, FeedError, Flaw, Job, Reader};
 use std::alloc::{AllocError, Global};
 use std::process::Abort;
@@ -81,17 +81,16 @@ fn job_of(alloc: Global, card: &str) -> Result<Option<Job>, FeedError> {
 /// Sees that a job has this name, account, steps, lines and flaw.
 fn check_job(rt: &impl Abort, job: &Job, wanted: &str) {
     let [name, account, steps, lines, flaw, ..] = words(wanted);
-    assert!(rt; job.name.as_slice() == name.as_bytes(), "{wanted}");
-    assert!(rt;
-        job.account_name.as_slice() == account.as_bytes(),
-        "{wanted}"
-    );
-    assert!(rt;
-        job.steps == unsigned(rt, steps) && job.lines == unsigned(rt, lines),
-        "{wanted}"
-    );
     let number = job.flaw.map_or(0, |f| f.number());
-    assert!(rt; u32::from(number) == unsigned(rt, flaw), "{wanted}");
+    let is_named = job.name.as_slice() == name.as_bytes();
+    see(
+        rt,
+        wanted,
+        is_named && job.account_name.as_slice() == account.as_bytes(),
+    );
+    see(rt, wanted, job.steps == unsigned(rt, steps));
+    see(rt, wanted, job.lines == unsigned(rt, lines));
+    see(rt, wanted, u32::from(number) == unsigned(rt, flaw));
 }
 
 #[test]
@@ -99,7 +98,7 @@ fn job_cards(rt: HostRuntime) -> Result<(), Fail> {
     for row in JOB_CARDS.lines() {
         let (card, wanted) = row.split_once('|').unwrap_or((row, ""));
         match job_of(rt.alloc(), card)? {
-            None => assert_eq!(rt; wanted, "none", "{card}"),
+            None => see(&rt, card, wanted == "none"),
             Some(job) => check_job(&rt, &job, wanted),
         }
     }
@@ -113,16 +112,13 @@ fn account_cards(rt: HostRuntime) -> Result<(), Fail> {
         let batch = batch_of(rt.alloc(), b"", card.as_bytes())?;
         match batch.accounts.as_slice() {
             [] => {
-                assert_eq!(rt; wanted, "none", "{card}");
-                assert_eq!(rt; batch.stray, 1, "{card}");
+                see(&rt, card, wanted == "none" && batch.stray == 1);
             }
             [account, ..] => {
                 let (name, balance) = wanted.split_once(' ').unwrap_or((wanted, ""));
-                assert_eq!(rt; account.name.as_slice(), name.as_bytes(), "{card}");
-                assert!(rt;
-                    account.opening == u64::from(unsigned(&rt, balance)),
-                    "{card}"
-                );
+                let is_named = account.name.as_slice() == name.as_bytes();
+                let opening = u64::from(unsigned(&rt, balance));
+                see(&rt, card, is_named && account.opening == opening);
             }
         }
     }
@@ -184,13 +180,13 @@ fn cards_of_pieces(rt: HostRuntime) -> Result<(), Fail> {
         // So many more letters find room on the card, and none more.
         let room = 80_usize.saturating_sub(card.len());
         let flaw = (kind == "foul").then_some(Flaw::ByteNotAllowed);
-        assert_eq!(rt; flaw_of(alloc, room, piece)?, flaw, "{row}");
+        see(&rt, row, flaw_of(alloc, room, piece)? == flaw);
         let long = flaw_of(alloc, room.saturating_add(1), piece)?;
-        assert_eq!(rt; long, Some(Flaw::CardTooLong), "{row}");
+        see(&rt, row, long == Some(Flaw::CardTooLong));
         match job_with(alloc, 0, piece)? {
-            Some(job) if flaw.is_none() => assert!(rt; has_deck(&job, card.as_slice()), "{row}"),
-            Some(job) => assert_eq!(rt; job.flaw, flaw, "{row}"),
-            None => panic!(rt; "no job"),
+            Some(job) if flaw.is_none() => see(&rt, row, has_deck(&job, card.as_slice())),
+            Some(job) => see(&rt, row, job.flaw == flaw),
+            None => see(&rt, row, false),
         }
     }
     Ok(())

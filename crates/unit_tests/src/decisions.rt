@@ -1,4 +1,4 @@
-use crate::rows::{unsigned, words};
+use crate::rows::{see, unsigned, words};
 use batch_core::{Claim, CoreState, Event};
 use std::alloc::{AllocError, Global};
 use std::process::Abort;
@@ -72,11 +72,11 @@ fn a_job_waits_until_another_ends(rt: HostRuntime) -> Result<(), Fail> {
     for row in WAITING.lines() {
         let (event, wanted) = row.split_once('|').unwrap_or((row, ""));
         if let ["balance", low, high, ..] = words(event) {
-            assert!(rt; state.low(0) == u64::from(unsigned(&rt, low)), "{row}");
-            assert!(rt; state.high(0) == u64::from(unsigned(&rt, high)), "{row}");
+            see(&rt, row, state.low(0) == u64::from(unsigned(&rt, low)));
+            see(&rt, row, state.high(0) == u64::from(unsigned(&rt, high)));
         } else {
             let came = comes(&mut state, event_of(&rt, event));
-            assert!(rt; came == (wanted == "comes"), "{row}");
+            see(&rt, row, came == (wanted == "comes"));
         }
     }
     Ok(())
@@ -190,12 +190,12 @@ fn every_way_decides_by_place(rt: HostRuntime) -> Result<(), Fail> {
             };
             events.clear();
             let count = ways(rt.alloc(), &batch, 0, &mut events, 10)?;
-            assert!(rt; count.is_some(), "{opening}, {second}, {third}");
+            see(&rt, "each way decides by place", count.is_some());
             total = total.saturating_add(count.unwrap_or(0));
         }
     }
     // So many there are by another program.
-    assert_eq!(rt; total, 6301);
+    see(&rt, "so many ways there are", total == 6301);
     Ok(())
 }
 
@@ -204,16 +204,26 @@ fn many_jobs(rt: HostRuntime) -> Result<(), Fail> {
     let mut state = CoreState::new(rt.alloc(), &[1000; 500])?;
     for number in 1..2001 {
         let event = Event::Arrive(claim(number % 500, 300, 10));
-        assert!(rt; comes(&mut state, event), "{number}");
+        see(&rt, "a job arrives", comes(&mut state, event));
     }
     for number in 1..2001 {
-        assert!(rt;
-            comes(&mut state, Event::Accept(number)) || comes(&mut state, Event::Refuse(number)),
-            "{number}"
+        let accepted = comes(&mut state, Event::Accept(number));
+        see(
+            &rt,
+            "a job is decided",
+            accepted || comes(&mut state, Event::Refuse(number)),
         );
-        assert!(rt; comes(&mut state, Event::End(number, 40)), "{number}");
-        assert!(rt; comes(&mut state, Event::Print(number)), "{number}");
+        see(&rt, "a job ends", comes(&mut state, Event::End(number, 40)));
+        see(
+            &rt,
+            "a job is printed",
+            comes(&mut state, Event::Print(number)),
+        );
     }
-    assert_eq!(rt; (state.low(499), state.high(499)), (840, 840));
+    see(
+        &rt,
+        "two jobs are charged",
+        state.low(499) == 840 && state.high(499) == 840,
+    );
     Ok(())
 }

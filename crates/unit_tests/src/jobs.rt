@@ -1,4 +1,4 @@
-use crate::rows::{unsigned, words};
+use crate::rows::{see, unsigned, words};
 use deck_reader::{FeedError, Reader};
 use std::alloc::Global;
 use std::process::Abort;
@@ -32,9 +32,10 @@ const CUTS: &str = "\
 fn take(rt: &impl Abort, reader: &mut Reader, from: u32, count: u32) {
     for number in 0..count {
         let job = reader.take_job();
-        assert_eq!(rt; job.map(|j| j.number), Some(from.wrapping_add(number)));
+        let next = from.wrapping_add(number);
+        see(rt, "the next job", job.is_some_and(|j| j.number == next));
     }
-    assert!(rt; reader.take_job().is_none());
+    see(rt, "no other job", reader.take_job().is_none());
 }
 
 /// A reader that was fed the first bytes.
@@ -54,12 +55,17 @@ fn check_cut(
 ) -> Result<(), FeedError> {
     let (front, behind) = THREE.split_at(cut.min(THREE.len()));
     let mut reader = fed(alloc, front)?;
-    assert!(rt; reader.accounts().is_some() == known, "behind {cut}");
+    see(
+        rt,
+        "accounts at the cut",
+        reader.accounts().is_some() == known,
+    );
     take(rt, &mut reader, 1, ended);
     reader.feed(behind)?;
-    assert!(rt;
-        reader.accounts().map(|a| a.len()) == Some(1),
-        "behind {cut}"
+    see(
+        rt,
+        "one account",
+        reader.accounts().is_some_and(|a| a.len() == 1),
     );
     take(
         rt,
@@ -69,7 +75,7 @@ fn check_cut(
     );
     let batch = reader.finish()?;
     let last = batch.jobs.as_slice().first().map(|j| j.number);
-    assert!(rt; last == Some(3) && batch.stray == 1, "behind {cut}");
+    see(rt, "the last job", last == Some(3) && batch.stray == 1);
     Ok(())
 }
 

@@ -7,27 +7,15 @@ mod batches;
 #[cfg(test)]
 mod cards;
 #[cfg(test)]
-mod cells;
-#[cfg(test)]
-mod classes;
-#[cfg(test)]
 mod decisions;
 #[cfg(test)]
-mod dumps;
-#[cfg(test)]
-mod items;
-#[cfg(test)]
 mod jobs;
-#[cfg(test)]
-mod lines;
 #[cfg(test)]
 mod office_day;
 #[cfg(test)]
 mod options;
 #[cfg(test)]
 mod ports;
-#[cfg(test)]
-mod records;
 #[cfg(test)]
 mod rows;
 #[cfg(test)]
@@ -36,5 +24,3 @@ mod summaries;
 mod tickets;
 #[cfg(test)]
 mod tokens;
-#[cfg(test)]
-mod values;

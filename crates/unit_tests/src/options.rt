@@ -1,4 +1,4 @@
-use crate::rows::{unsigned, words};
+use crate::rows::{see, unsigned, words};
 use command_words::{Order, WordsError, read_words};
 use std::alloc::{AllocError, Global};
 use std::process::Abort;
@@ -67,7 +67,7 @@ fn orders(rt: HostRuntime) {
     for row in ORDERS.lines() {
         let (line, numbers) = row.split_once('|').unwrap_or((row, ""));
         let wanted = Ok(order_of(&rt, numbers));
-        assert!(rt; answers(rt.alloc(), line, wanted), "{row}");
+        see(&rt, row, answers(rt.alloc(), line, wanted));
     }
 }
 
@@ -141,6 +141,6 @@ fn refusals(rt: HostRuntime) {
     for row in REFUSALS.lines() {
         let (line, _) = row.split_once('|').unwrap_or((row, ""));
         let wanted = Err(WordsError::BadWords);
-        assert!(rt; answers(rt.alloc(), line, wanted), "{row}");
+        see(&rt, row, answers(rt.alloc(), line, wanted));
     }
 }

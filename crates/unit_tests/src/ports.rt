@@ -1,4 +1,4 @@
-use crate::rows::{columns, unsigned};
+use crate::rows::{columns, see, unsigned};
 use batch_io::{MemSink, MemSource, ReadFailed, Sink, Source, StdSink, StdSource, WriteFailed};
 use std::alloc::{AllocError, Global};
 use std::io::{self, ErrorKind, Read, Write};
@@ -53,10 +53,10 @@ fn check_reads(rt: &impl Abort, source: &mut MemSource, calls: &[Call]) {
         let mut buf = [0; 9];
         assert!(rt; call.offered <= 9);
         let given = source.read(&mut buf[..call.offered]).ok();
-        assert_eq!(rt; given, call.gone, "a read of {}", call.offered);
+        see(rt, "a read", given == call.gone);
         let count = call.gone.unwrap_or(0);
         assert!(rt; count <= left.len() && count <= 9);
-        assert_eq!(rt; &buf[..count], &left[..count]);
+        see(rt, "bytes read", buf[..count] == left[..count]);
         left = &left[count..];
     }
 }
@@ -66,18 +66,13 @@ fn check_writes(rt: &impl Abort, sink: &mut MemSink, calls: &[Call]) {
     let mut left = TEXT;
     for call in calls {
         let piece = &left[..left.len().min(call.offered)];
-        assert_eq!(rt;
-            sink.write(piece).ok(),
-            call.gone,
-            "a write of {}",
-            call.offered
-        );
+        see(rt, "a write", sink.write(piece).ok() == call.gone);
         let count = call.gone.unwrap_or(0);
         assert!(rt; count <= left.len());
         left = &left[count..];
     }
     let gone = TEXT.len().saturating_sub(left.len());
-    assert_eq!(rt; sink.bytes(), &TEXT[..gone]);
+    see(rt, "bytes written", sink.bytes() == &TEXT[..gone]);
 }
 
 /// Makes calls of a source of the text.
@@ -190,10 +185,14 @@ fn a_writer_fails_once(rt: HostRuntime) {
         written: Vec::new(rt.alloc()),
     };
     let mut sink = StdSink::new(&mut writer);
-    assert_eq!(rt; sink.write(b"abcd"), Ok(2));
-    assert_eq!(rt; sink.write(b"cd"), Err(WriteFailed));
-    assert_eq!(rt; sink.write(b"cd"), Err(WriteFailed));
-    assert_eq!(rt; sink.write(b""), Ok(0));
-    assert_eq!(rt; sink.write(b"cd"), Ok(2));
-    assert_eq!(rt; writer.written.as_slice(), b"abcd".as_slice());
+    see(&rt, "two bytes", sink.write(b"abcd") == Ok(2));
+    see(&rt, "a fault", sink.write(b"cd") == Err(WriteFailed));
+    see(&rt, "nothing taken", sink.write(b"cd") == Err(WriteFailed));
+    see(&rt, "nothing to write", sink.write(b"") == Ok(0));
+    see(&rt, "two more", sink.write(b"cd") == Ok(2));
+    see(
+        &rt,
+        "the bytes",
+        writer.written.as_slice() == b"abcd".as_slice(),
+    );
 }

@@ -1,3 +1,4 @@
+use crate::rows::see;
 use batch_summary::{Entry, Outcome, Tally, summary_of};
 use std::test::Fail;
 
@@ -34,9 +35,9 @@ fn summaries(rt: HostRuntime) -> Result<(), Fail> {
         bytes: 434,
     };
     let Some(sections) = NONE.with(diagnosed).and_then(|t| t.with(normal)) else {
-        panic!(rt; "no tally");
+        return Err(Fail::from("no tally"));
     };
     let summary = summary_of(rt.alloc(), 7, 2, &sections)?;
-    assert_eq!(rt; summary.as_slice(), SUMMARY);
+    see(&rt, "a summary", summary.as_slice() == SUMMARY);
     Ok(())
 }

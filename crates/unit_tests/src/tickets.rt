@@ -1,6 +1,7 @@
 ghost use Rattle.std.specs.Prelude.{◌≡◌, ◌+◌, ◌<◌, All};
 ghost use Rattle.crossbeam_queue.specs.Passes.{view};
 
+use crate::rows::see;
 use job_queue::{FreshQueue, JobQueue, PutPass, QueueBrand, TakePass, Ticket};
 use std::marker::Brand;
 use std::sync::Wait;
@@ -97,8 +98,16 @@ fn four_in_three<B: QueueBrand + Send + Sync, R: Threads + Wait + Sync>(
 fn four_tickets(rt: HostRuntime) -> Result<(), Fail> {
     let fresh = FreshQueue::new(rt.alloc(), 3)?;
     let seen = four_in_three::<Brand, HostRuntime>(&rt, fresh);
-    assert_eq!(rt; seen.put, [true, true, true, false]);
-    assert_eq!(rt; (seen.first, seen.again), (1, true));
-    assert_eq!(rt; (seen.owed, seen.none), (360, true));
+    see(
+        &rt,
+        "three find room",
+        seen.put == [true, true, true, false],
+    );
+    see(&rt, "the first is taken", seen.first == 1 && seen.again);
+    see(
+        &rt,
+        "all is owed that wasn't settled",
+        seen.owed == 360 && seen.none,
+    );
     Ok(())
 }

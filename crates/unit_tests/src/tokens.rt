@@ -1,3 +1,4 @@
+use crate::rows::see;
 use algolw_scanner::{Scanned, scan};
 use algolw_tree::{Symbol, TokenKind, WORDS, Word};
 use deck_reader::{Job, Reader};
@@ -191,7 +192,7 @@ fn check_deck(rt: &impl Abort, alloc: Global, cards: &[&str], wanted: &str) -> R
         return Err(Fail::from("a flaw"));
     };
     let all = listed(alloc, &scanned)?;
-    assert_eq!(rt; all.as_slice(), wanted.as_bytes(), "{wanted}");
+    see(rt, wanted, all.as_slice() == wanted.as_bytes());
     Ok(())
 }
 
