@@ -1,13 +1,13 @@
 -- Cells in line: their words, and what stands beside.
-use Rattle.std.proofs.Common.{◌≡◌, ℕ, zero, suc, ◌<◌, true, false, List, [], ◌∷◌, ◌++◌, length, take, Option, Some, None, get_or, refl, sym, ap, ◌∙◌, subst, arith}
+use Rattle.std.proofs.Common.{◌≡◌, ℕ, zero, suc, ◌+◌, ◌<◌, true, false, List, [], ◌∷◌, ◌++◌, length, take, replicate, Option, Some, None, get_or, refl, sym, ap, ◌∙◌, subst, arith}
 use Rattle.std.specs.Prelude.{slice_get, slice_set, is_none, if◌then◌else◌, IfSome}
 use Rattle.std.specs.Option.{option_and_then}
-use Rattle.std.proofs.lemmas.List.{length-set}
+use Rattle.std.proofs.lemmas.List.{append_assoc, length-append, length-replicate, length-set, replicate-append-replicate}
 use Rattle.cell_store.specs.declared.cells.Word as flat
 use Rattle.cell_store.specs.declared.cells.Word.TheVariants as kind
 use Rattle.cell_store.specs.declared.cells.Wide.{Wide}
 use Rattle.cell_store.specs.declared.cells.Wide.TheVariants as wide
-use Rattle.cell_store.specs.Cells.{Cell, Shelf, a_wide, word_in, wide_in, text_over}
+use Rattle.cell_store.specs.Cells.{Cell, Shelf, a_wide, nothing, word_in, wide_in, text_over}
 use Rattle.cell_store.specs.Words.{Word, word_of, is_wide}
 use Rattle.cell_store.specs.Held.{beside_at, held_by, held, word_cell, cells, AreBeside}
 
@@ -51,6 +51,33 @@ beside_push [] [] v i h = (i, tt)
 beside_push [] (w ∷ beside) v i h = tt
 beside_push (s ∷ words) [] v i h = (h.0, beside_push words [] v i h.1)
 beside_push (s ∷ words) (w ∷ beside) v i h = beside_push words beside v i h
+
+-- many, which hold nothing
+empty_cells : (k : ℕ) (beside : List Wide) → cells (replicate k kind.Nothing) beside ≡ replicate k nothing
+empty_cells zero beside = refl
+empty_cells (suc k) [] = ap (λ xs. nothing ∷ xs) (empty_cells k [])
+empty_cells (suc k) (w ∷ beside) = ap (λ xs. nothing ∷ xs) (empty_cells k beside)
+
+pub length_blank : (words : List flat.Word) (k : ℕ) → length (words ++ replicate k kind.Nothing) ≡ length words + k
+length_blank words k = length-append words (replicate k kind.Nothing) ∙ ap (λ n. length words + n) (length-replicate k kind.Nothing)
+
+pub cells_blank : (words : List flat.Word) (beside : List Wide) (k : ℕ) → cells (words ++ replicate k kind.Nothing) beside ≡ cells words beside ++ replicate k nothing
+cells_blank [] beside k = empty_cells k beside
+cells_blank (s ∷ words) [] k = ap (λ xs. held s None ∷ xs) (cells_blank words [] k)
+cells_blank (s ∷ words) (w ∷ beside) k = ap (λ xs. held s (Some w) ∷ xs) (cells_blank words beside k)
+
+pub more_nothing : (cs : List Cell) (m n : ℕ) → (cs ++ replicate m nothing) ++ replicate n nothing ≡ cs ++ replicate (m + n) nothing
+more_nothing cs m n = append_assoc cs (replicate m nothing) (replicate n nothing) ∙ ap (λ (xs : List Cell). cs ++ xs) (replicate-append-replicate m n nothing)
+
+empty_beside : (k : ℕ) (beside : List Wide) → AreBeside (replicate k kind.Nothing) beside
+empty_beside zero beside = tt
+empty_beside (suc k) [] = (refl, empty_beside k [])
+empty_beside (suc k) (w ∷ beside) = empty_beside k beside
+
+pub beside_blank : (words : List flat.Word) (beside : List Wide) (k : ℕ) → AreBeside words beside → AreBeside (words ++ replicate k kind.Nothing) beside
+beside_blank [] beside k h = empty_beside k beside
+beside_blank (s ∷ words) [] k h = (h.0, beside_blank words [] k h.1)
+beside_blank (s ∷ words) (w ∷ beside) k h = beside_blank words beside k h
 
 -- which holds what is put beside it
 pub cells_push_wide : (words : List flat.Word) (beside : List Wide) (v : Wide) → length words < length beside → cells (words ++ kind.Wide ∷ []) (slice_set beside (length words) v) ≡ cells words beside ++ a_wide v ∷ []

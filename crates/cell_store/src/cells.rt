@@ -40,6 +40,19 @@ pub struct Closed {
     pub kind: Option<SimpleType>,
 }
 
+impl Closed {
+    /// It becomes the same as another, member by member: a processor waits where it reads at once what it wrote bit by bit.
+    #[inline(always)]
+    fn copy_from(&mut self, other: &Closed)
+        ensures { self.new ≡ other.now }
+    {
+        self.entry = other.entry;
+        self.link = other.link;
+        self.variable = other.variable;
+        self.kind = other.kind;
+    }
+}
+
 /// A procedure, as a formal has it.
 #[derive(Clone, Copy)]
 pub struct Procedure {
@@ -154,18 +167,22 @@ impl Wide {
         link: None,
     });
 
-    /// It becomes the same as another. A string is written over one that is held, with no copy of the room behind it.
+    /// It becomes the same as another. What is written is what that is, without the room behind it.
     pub fn copy_from(&mut self, other: &Wide)
         ensures { self.new ≡ other.now }
     {
         match other {
             Wide::Str(text) => self.set_text(text.as_slice()),
             Wide::Part(part) => self.set_part(part),
-            _ => self.copy_whole(other),
+            Wide::Array(array) => self.set_array(array),
+            Wide::Thunk(thunk) => self.set_thunk(thunk),
+            Wide::Procedure(procedure) => self.set_procedure(procedure),
+            Wide::Bounds(_) => self.copy_whole(other),
         }
     }
 
     /// It becomes the same as another, copied with all its room.
+    #[inline(never)]
     fn copy_whole(&mut self, other: &Wide)
         ensures { self.new ≡ other.now }
     {
@@ -200,6 +217,62 @@ impl Wide {
             Wide::Part(own) => *own = *part,
             _ => *self = Wide::Part(*part),
         }
+    }
+
+    /// It becomes an array.
+    fn set_array(&mut self, array: &Descriptor)
+        ensures { self.new ≡ Wide.Array array.now }
+    {
+        match self {
+            Wide::Array(own) => *own = *array,
+            _ => self.become_array(array),
+        }
+    }
+
+    /// It becomes a copied actual.
+    #[inline(always)]
+    pub fn set_thunk(&mut self, thunk: &Closed)
+        ensures { self.new ≡ Wide.Thunk thunk.now }
+    {
+        match self {
+            Wide::Thunk(own) => own.copy_from(thunk),
+            _ => self.become_thunk(thunk),
+        }
+    }
+
+    /// It becomes a procedure.
+    #[inline(always)]
+    pub fn set_procedure(&mut self, procedure: &Procedure)
+        ensures { self.new ≡ Wide.Procedure procedure.now }
+    {
+        match self {
+            Wide::Procedure(own) => *own = *procedure,
+            _ => self.become_procedure(procedure),
+        }
+    }
+
+    /// The same, where it is of another kind: its room is written anew.
+    #[inline(never)]
+    fn become_array(&mut self, array: &Descriptor)
+        ensures { self.new ≡ Wide.Array array.now }
+    {
+        *self = Wide::Array(*array);
+    }
+
+    /// The same, where it is of another kind: its room is written anew.
+    #[inline(never)]
+    fn become_thunk(&mut self, thunk: &Closed)
+        ensures { self.new ≡ Wide.Thunk thunk.now }
+    {
+        *self = Wide::Thunk(*thunk);
+    }
+
+    /// The same, where it is of another kind: its room is written anew.
+    #[inline(never)]
+    fn become_procedure(&mut self, procedure: &Procedure)
+        ensures { self.new ≡ Wide.Procedure procedure.now }
+    {
+        *self = Wide::Procedure(*procedure);
     }
 
     /// It becomes a string of these characters.

@@ -4,11 +4,15 @@ ghost use Rattle.cell_store.specs.Cells.{a_wide, word_in, wide_in, text_over, no
 ghost use Rattle.cell_store.specs.Words.{word_of, is_wide};
 ghost use Rattle.cell_store.specs.Held.{beside_at, word_cell};
 ghost use Rattle.value_ops.specs.Strings.{filled};
+ghost use Rattle.cell_store.specs.declared.cells.Word.TheVariants as kind;
 
 use crate::cells::{Wide, Word};
 use crate::items::{item_at, item_there, ref_at};
 use std::alloc::{AllocError, Global};
 use std::marker::Model;
+
+/// Words that hold nothing, so that many cells are made undefined by one copy of memory.
+static BLANK: [Word; 512] = [Word::Nothing; 512];
 
 /// Cells in line. Contracts see what each holds, and how many there is room for. No call but `new` and `make_room` takes
 /// memory.
@@ -143,9 +147,22 @@ impl Shelf {
         requires { length self.old.cells + count ≤ self.old.room }
         ensures { self.new ≡ record self.old { cells = self.old.cells ++ replicate count nothing } }
     {
-        for _ in 0..count {
-            self.push(Word::Nothing);
+        let mut left = count as usize;
+        while left > 0 {
+            let some = left.min(BLANK.len());
+            self.push_blank(some);
+            left -= some;
         }
+    }
+
+    /// So many cells more, at most 512, which hold nothing.
+    #[tactic(auto, using(crate::proofs::CellLines::length_cells, crate::proofs::CellLines::length_blank, crate::proofs::CellLines::cells_blank, crate::proofs::CellLines::beside_blank))]
+    fn push_blank(&mut self, count: usize)
+        requires room { length self.old.cells + count ≤ self.old.room }
+        requires most { count ≤ 512 }
+        ensures { self.new ≡ record self.old { cells = self.old.cells ++ replicate count nothing } }
+    {
+        append_blank(&mut self.words, count);
     }
 
     /// The cell of this number holds this from now on.
@@ -205,6 +222,19 @@ impl Shelf {
     {
         self.words.truncate(kept as usize);
     }
+}
+
+/// So many words more, at most 512, which hold nothing.
+#[inline(always)]
+fn append_blank(words: &mut Vec<Word>, count: usize)
+    requires room { length words.old.items + count ≤ vec_capacity words.old }
+    requires most { count ≤ 512 }
+    ensures items { words.new.items ≡ words.old.items ++ replicate count kind.Nothing }
+    ensures capacity { vec_capacity words.old ≤ vec_capacity words.new }
+{
+    let Ok(()) = words.extend_from_slice(&BLANK[..count]) else {
+        unreachable!()
+    };
 }
 
 /// Whether what the cell of this number holds stands beside.

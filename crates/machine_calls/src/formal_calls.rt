@@ -5,6 +5,7 @@ ghost use Rattle.program_meaning.specs.Copying.{is_variable_of};
 ghost use Rattle.stack_code.specs.CodeView.{GivenFits, numbers, kind_view, formal_type_view, source_view};
 ghost use Rattle.stack_code.specs.Limits.{CodeRuns, InstrRuns, FormalTypeRuns, GivesRuns, KindRuns, KindsRun};
 ghost use Rattle.stack_code.specs.declared.instructions.Instr.TheVariants as instr;
+ghost use Rattle.stack_code.specs.declared.instructions.Source.TheVariants as source;
 ghost use Rattle.stack_code.specs.Table as table;
 ghost use Rattle.value_ops.specs.declared.places.Place.{Place};
 ghost use Rattle.cell_store.specs.declared.cells.Wide.TheVariants as wide;
@@ -45,9 +46,17 @@ fn procedure_out(store: &Store, source: Source) -> Procedure
     requires { IsSome (found.procedure_in (found.source_out store.now source)) }
     ensures { found.procedure_in (found.source_out store.now source) ≡ Some result }
 {
-    match source_out(store, source) {
-        Some(Wide::Procedure(procedure)) => procedure,
-        _ => unreachable!(),
+    match source {
+        Source::Entry { links, position } => {
+            match store.wide_cell(cell_out(store, links, position)) {
+                Some(Wide::Procedure(procedure)) => *procedure,
+                _ => unreachable!(),
+            }
+        }
+        Source::Head { links, head } => {
+            let link = text_out(store, u32::from(links));
+            Procedure { head, link }
+        }
     }
 }
 
@@ -69,11 +78,28 @@ fn hold_source(state: &mut State, source: Source) -> Held
     ensures wide { Some state.new.wide ≡ found.wide_out state.old.store source }
     ensures kept { state.new ≡ record state.old { wide = state.new.wide } }
 {
-    let Some(wide) = source_out(&state.store, source) else {
+    match source {
+        Source::Entry { links, position } => hold_entry(state, links, position),
+        Source::Head { links, head } => {
+            let link = text_out(&state.store, u32::from(links));
+            state.wide.set_procedure(&Procedure { head, link });
+        }
+    }
+    Held::Wide
+}
+
+/// What stands in the cell of a name is held, where it is wide.
+#[inline(always)]
+fn hold_entry(state: &mut State, links: u16, position: u32)
+    requires { IsSome (found.wide_out state.old.store (source.Entry links position)) }
+    ensures wide { Some state.new.wide ≡ found.wide_out state.old.store (source.Entry links position) }
+    ensures kept { state.new ≡ record state.old { wide = state.new.wide } }
+{
+    let cell = cell_out(&state.store, links, position);
+    let Some(wide) = state.store.wide_cell(cell) else {
         unreachable!()
     };
-    state.wide = wide;
-    Held::Wide
+    state.wide.copy_from(wide);
 }
 
 /// The actuals of a call are compared with the formals of what is called, which may be a copied actual: then that is used.
