@@ -12,7 +12,7 @@ use Rattle.program_meaning.specs.Results as results
 use Rattle.program_meaning.specs.Results.{initial, nowhere, outcome, state_of}
 use Rattle.stack_code.specs.Code.{Code}
 use Rattle.stack_code.specs.Machine.{Machine}
-use Rattle.stack_code.specs.Fit.{Runs}
+use Rattle.stack_code.specs.Ending.{Runs}
 use Rattle.stack_code.specs.Run as table
 use Rattle.stack_code.specs.Run.{normal, stopped, RunsTo, dump_lines, machine_of}
 use Rattle.phrase_code.specs.Coding.{program_code}

@@ -13,10 +13,10 @@ use Rattle.program_meaning.specs.Results.{state_of, why_text}
 use Rattle.program_meaning.specs.Translating.{program_phrase}
 use Rattle.program_meaning.proofs.Runs.{runs_keep_their_limits}
 use Rattle.stack_code.specs.CodeView.{CodeView, code_view, statement_view}
-use Rattle.stack_code.specs.GoingOn.{FitCode}
+use Rattle.stack_code.specs.Ending.{AlwaysEnds}
 use Rattle.stack_code.specs.Run as table
 use Rattle.stack_code.specs.Run.{RunsTo, machine_of, normal, stopped}
-use Rattle.stack_code.proofs.Fit.{outcomes_are_one}
+use Rattle.stack_code.proofs.Ending.{outcomes_are_one}
 use Rattle.phrase_code.specs.Coding.{program_code}
 use Rattle.joined_rows.specs.declared.outcome.Outcome as machine
 use Rattle.joined_rows.specs.declared.outcome.Outcome.TheVariants as outcome
@@ -112,9 +112,9 @@ module _ (job : JobView) (c : CodeView) (is : IsCodeOf job.deck c) where
   right : HasRightCode (program_phrase program)
   right = spelled_is_right job.deck is.program is.spelled is.faultless
 
-  -- its code is fit
-  pub code_is_fit : FitCode (code_view c)
-  code_is_fit = subst FitCode (sym is.code) right.fit
+  -- its code always ends
+  pub code_ends : AlwaysEnds (code_view c)
+  code_ends = subst AlwaysEnds (sym is.code) right.ends
 
   -- no statement is begun more often than a job may take steps
   pub within_steps : job.steps ≤ 10000000 → IsWithinSteps (begun_of job)

@@ -1,7 +1,7 @@
 ghost use Rattle.std.specs.Prelude.{◌≡◌, ◌≢◌, ◌≤◌, [], None, IfOk, length};
 ghost use Rattle.account_book.specs.Charges.{charge, reserve};
 ghost use Rattle.stack_code.specs.CodeView.{code_view};
-ghost use Rattle.stack_code.specs.GoingOn.{FitCode};
+ghost use Rattle.stack_code.specs.Ending.{AlwaysEnds};
 ghost use Rattle.stack_machine.specs.Desks.{IsPrepared, shown_by};
 ghost use Rattle.stack_machine.specs.Runs.{ComesTo};
 ghost use Rattle.algolw_meaning.specs.Meaning.{shown_diagnostics};
@@ -62,7 +62,7 @@ fn run_code(
 /// Runs code at a desk that is prepared for it, with the job's data and limits.
 fn run_prepared(desk: &mut Desk, job: &Job, code: &Code) -> Outcome
     requires prepared { IsPrepared code.now desk.old }
-    requires fit { FitCode (code_view code.now) }
+    requires ends { AlwaysEnds (code_view code.now) }
     ensures { ComesTo (setting_of job.now) code.now result (shown_by desk.new) }
 {
     let limits = Limits {

@@ -4,7 +4,7 @@ use Rattle.deck_reader.specs.JobView.{JobView}
 use Rattle.account_book.specs.Charges.{reserve}
 use Rattle.batch_core.specs.declared.job.Stage.{Stage}
 use Rattle.batch_core.specs.declared.job.Stage.TheVariants as stage
-use Rattle.batch_core.specs.Core.{stage_at, job_at}
+use Rattle.batch_core.specs.Core.{stage_at}
 use Rattle.algolw_meaning.specs.EndedView.{EndedView}
 use Rattle.algolw_meaning.specs.declared.brought.Brought.{Brought}
 use Rattle.algolw_meaning.specs.declared.brought.Brought.TheVariants as brought
@@ -35,7 +35,12 @@ abbrev pub brought_by : Option EndedView → Brought
 brought_by None = brought.Refused
 brought_by (Some result) = brought.Ended result
 
--- what is brought of the next unprinted job: that it was refused, or its result
-abbrev pub Brings : RegisterView → Brought → Type 0
-Brings r brought.Refused = (job_at r.core r.core.printed).stage ≡ stage.Refused
-Brings r (brought.Ended result) = (job : JobView) × (slice_get r.jobs r.core.printed ≡ Some job) × (result.job ≡ job)
+-- how the job stands of which this is brought: it was refused, or it has ended
+abbrev pub standing_told : Brought → Standing
+standing_told brought.Refused = Refused
+standing_told (brought.Ended result) = Ended
+
+-- where a result is brought, this holds of it
+abbrev pub IfResult : Brought → (EndedView → Type 0) → Type 0
+IfResult brought.Refused holds = Unit {0}
+IfResult (brought.Ended result) holds = holds result

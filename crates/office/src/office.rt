@@ -1,4 +1,4 @@
-ghost use Rattle.std.specs.Prelude.{◌≡◌, ◌≤◌, ◌<◌, ◌+◌, ◌-◌, ◌↔◌, ◌⊎◌, [], true, IfErr, IfNone, IfOk, IfSome, OnErr, OnOk, OnSome, IsOk, IsSome, IsTrue, slice_get};
+ghost use Rattle.std.specs.Prelude.{◌≡◌, ◌≤◌, ◌<◌, ◌+◌, ◌-◌, ◌↔◌, ◌⊎◌, [], true, Some, IfErr, IfNone, IfOk, IfSome, OnErr, OnOk, OnSome, IsOk, IsSome, IsTrue, slice_get};
 ghost use Rattle.crossbeam_queue.specs.Passes.{view};
 ghost use Rattle.job_queue.specs.Rule.{amount_of};
 ghost use Rattle.batch_core.specs.Events.{MayAccept, MayPrint};
@@ -6,7 +6,7 @@ ghost use Rattle.office.specs.Answers.{Answers, behind};
 ghost use Rattle.office.specs.Arrivals.{Fits, IsBelow, IsMisfit};
 ghost use Rattle.office.specs.OfficeView.{IsAllOver, new_office, next_ticket, with_accepted, with_closed, with_ended, with_full, with_register, with_stopped};
 ghost use Rattle.office.specs.Register.{arrived, printed};
-ghost use Rattle.office.specs.Standings.{Brings, IsRunning, standing_of};
+ghost use Rattle.office.specs.Standings.{IfResult, IsRunning, standing_of, standing_told};
 ghost use Rattle.office.specs.StandsFor.{StandsFor};
 ghost use Rattle.office.specs.Tickets.{slip};
 
@@ -242,10 +242,12 @@ impl<B: QueueBrand> Office<B> {
         Ok(())
     }
 
-    /// What the section of the next unprinted job is made of, once that is refused or has ended; it is then printed.
+    /// What the section of the next unprinted job is made of, once that is refused or has ended; it is then printed. It is
+    /// a result exactly where the job has ended, and the result is that of this job.
     pub fn next_section(&mut self) -> Option<Brought>
         ensures may { IsSome result ↔ MayPrint self.old.register.core }
-        ensures brought { IfSome result (λ brought. Brings self.old.register brought) }
+        ensures standing { IfSome result (λ brought. standing_of self.old.register (self.old.register.core.printed + 1) ≡ standing_told brought) }
+        ensures result { IfSome result (λ brought. IfResult brought (λ ended. slice_get self.old.register.jobs self.old.register.core.printed ≡ Some ended.job)) }
         ensures printed { OnSome result (self.new ≡ with_register self.old (printed self.old.register)) }
         ensures unchanged { IfNone result (self.new ≡ self.old) }
     {

@@ -6,7 +6,7 @@ ghost use Rattle.batch_core.specs.Kept.{AllOver};
 ghost use Rattle.batch_core.specs.Claims.{claim_of_job};
 ghost use Rattle.office.specs.Prospects.{IsNext, Sees};
 ghost use Rattle.office.specs.Register.{accepted, arrived, blank, finished, next_reserve, printed, refused};
-ghost use Rattle.office.specs.Standings.{Brings, IsRunning, brought_by, standing_of};
+ghost use Rattle.office.specs.Standings.{IfResult, IsRunning, brought_by, standing_of, standing_told};
 
 use crate::prospect::Prospect;
 use crate::standing::Standing;
@@ -267,7 +267,8 @@ impl Register {
         ensures may { IsSome result ↔ MayPrint self.old.core }
         ensures unchanged { IfNone result (self.new ≡ self.old) }
         ensures printed { OnSome result (self.new ≡ printed self.old) }
-        ensures brought { IfSome result (λ brought. Brings self.old brought) }
+        ensures standing { IfSome result (λ brought. standing_of self.old (self.old.core.printed + 1) ≡ standing_told brought) }
+        ensures result { IfSome result (λ brought. IfResult brought (λ ended. slice_get self.old.jobs self.old.core.printed ≡ Some ended.job)) }
     {
         if !self.core.may_print() {
             return None;

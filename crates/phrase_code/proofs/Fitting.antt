@@ -11,7 +11,7 @@ use Rattle.program_meaning.specs.Copying.{dimensions, free_of}
 use Rattle.stack_code.specs.Instr as instr
 use Rattle.stack_code.specs.Instr.{Instr, Mode, the_value, the_place, as_asked}
 use Rattle.stack_code.specs.Code.{Coded}
-use Rattle.stack_code.specs.GoingOn.{Stands, FitAt, FitInstructions, ends_behind}
+use Rattle.stack_code.specs.GoingOn.{Stands, WellFormedAt, WellFormed, ends_behind}
 use Rattle.stack_code.specs.Run.{nowhere}
 use Rattle.phrase_code.specs.Sizes.{formals_known, block_known, head_kind, begin_size, result_size, text_size, bare_call_size, named_size, goto_size, size, each_size, fields_size, jumps_size, parts_size, list_size, writes_size, targets_size, items_size, bounds_size, decls_size, subscripts_size, actuals_size, actual_size, backs_size, back_of_size, texts_size, text_of_size}
 use Rattle.phrase_code.specs.Coding.{◌▸◌, one, Context, known, with_entries, inner_text, block_context, body_context, turn_context, stand_of, stand_at, begin_code, phrase_count, stars_of, code, code_each, code_fields, code_parts, code_list, code_writes, code_reads, code_cards, code_items, code_bounds, code_decls, code_subscripts, code_actuals, code_actual, code_backs, code_back, code_texts, code_text, outermost, program_code, entry_count}
@@ -28,7 +28,7 @@ module _ (program : List Coded) where
   Whole k a n = parts.Part program (k + n) k a (k + n)
 
   -- two parts, the first of which is pushed, and an instruction on them
-  two : (w : Place) (k m n : ℕ) (a b : List Coded) (i : Instr) → ends_behind i ≡ None → ((j : ℕ) → Stands program (j + 1) → FitAt program j i) → Whole k a m → Whole (k + (m + 1)) b n → Whole k (a ▸ one w instr.Push ▸ b ▸ one w i) (m + (1 + (n + 1)))
+  two : (w : Place) (k m n : ℕ) (a b : List Coded) (i : Instr) → ends_behind i ≡ None → ((j : ℕ) → Stands program (j + 1) → WellFormedAt program j i) → Whole k a m → Whole (k + (m + 1)) b n → Whole k (a ▸ one w instr.Push ▸ b ▸ one w i) (m + (1 + (n + 1)))
   two w k m n a b i none g p q = to (omega arith) (then (within (omega arith) p) (then (next w instr.Push refl (λ s. s) (omega arith)) (from {m = k + (m + 1)} (omega arith) (then (within (omega arith) q) (next w i none (g (k + (m + 1) + n)) (omega arith))))))
 
   for_step : (c : Context) (st : Place) (k : ℕ) (x : Name) (a b d body : Phrase) → Whole (k + 1) (code c st the_value (k + 1) a) (size (known c) a) → Whole (k + 2 + size (known c) a) (code c st the_value (k + 2 + size (known c) a) b) (size (known c) b) →
@@ -275,8 +275,8 @@ written_whole before (i ∷ a) =
     (let z : length before + 0 ≡ length before = omega arith in ap (slice_get (before ++ (i ∷ a))) (sym z) ∙ get_behind before (i ∷ a) 0, subst (λ k. Written (before ++ (i ∷ a)) k a) l (subst (λ p. Written p (length (before ++ (i ∷ []))) a) (append_assoc before (i ∷ []) a) (written_whole (before ++ (i ∷ [])) a)))
 
 -- The code of a program is fit.
-pub program_code_fits : (a : Phrase) → FitInstructions (program_code a).instructions
-program_code_fits a = record { first = omega (arith, top); each = λ k c g. (all.piece top (written_whole [] program) k (omega arith) (let i = slice_get_within program k c g in omega (arith, i, length_is)) c g).fit }
+pub program_code_is_well_formed : (a : Phrase) → WellFormed (program_code a).instructions
+program_code_is_well_formed a = record { first = omega (arith, top); each = λ k c g. (all.piece top (written_whole [] program) k (omega arith) (let i = slice_get_within program k c g in omega (arith, i, length_is)) c g).fit }
   where
     program : List Coded
     program = (program_code a).instructions

@@ -6,7 +6,7 @@ use Rattle.value_ops.specs.declared.places.Place.{Place}
 use Rattle.stack_code.specs.Instr as instr
 use Rattle.stack_code.specs.Instr.{Instr, TextHead}
 use Rattle.stack_code.specs.Code.{Coded, text_of}
-use Rattle.stack_code.specs.GoingOn.{Stands, StandsText, ends_behind, BeginsText, FitAside, FitAt, Ahead}
+use Rattle.stack_code.specs.GoingOn.{Stands, StandsText, ends_behind, BeginsText, WellFormedAside, WellFormedAt, Ahead}
 use Rattle.phrase_code.specs.Coding.{◌▸◌, one}
 use Rattle.phrase_code.proofs.Sizes.{length_code}
 
@@ -29,7 +29,7 @@ module _ (program : List Coded) where
   EndsBy top i = (behind : ℕ) → ends_behind i ≡ Some behind → behind ≤ top
 
   pub record FitThere (top k : ℕ) (c : Coded) : Type 0 where
-    pub fit : FitAt program k c.does
+    pub fit : WellFormedAt program k c.does
     pub ends : EndsBy top c.does
 
   -- the instructions from k to e are fit, and the texts that begin there end within the top
@@ -80,7 +80,7 @@ pub knowing : {program : List Coded} {top k e : ℕ} {a : List Coded} → k + le
 knowing l f = record { long = l; piece = λ t h. (f t h).piece t h }
 
 -- one instruction
-pub single : {program : List Coded} {top k : ℕ} (w : Place) (i : Instr) → (Stands program top → FitAt program k i) → EndsBy program top i → Part program top k (one w i) (k + 1)
+pub single : {program : List Coded} {top k : ℕ} (w : Place) (i : Instr) → (Stands program top → WellFormedAt program k i) → EndsBy program top i → Part program top k (one w i) (k + 1)
 single {program} {top} {k} w i f n = record { long = omega arith; piece = λ t h j a b c g. by t h.0 j (omega (arith, a, b)) c g }
   where
     same : (x c : Coded) → x ≡ c → FitThere program top k x → FitThere program top k c
@@ -90,11 +90,11 @@ single {program} {top} {k} w i f n = record { long = omega arith; piece = λ t h
     by t h j e c g = subst (λ l. FitThere program top l c) e (same (record { at = w; does = i }) c (let q = ap (slice_get program) e in cc (h, g, q)) (record { fit = f t; ends = n }))
 
 -- one that begins no text
-pub plain : {program : List Coded} {top k : ℕ} (w : Place) (i : Instr) → ends_behind i ≡ None → (Stands program top → FitAt program k i) → Part program top k (one w i) (k + 1)
+pub plain : {program : List Coded} {top k : ℕ} (w : Place) (i : Instr) → ends_behind i ≡ None → (Stands program top → WellFormedAt program k i) → Part program top k (one w i) (k + 1)
 plain w i n f = single w i f (λ behind q. absurd (cc (n, q)))
 
 -- one that goes on behind it
-pub next : {program : List Coded} {top k : ℕ} (w : Place) (i : Instr) → ends_behind i ≡ None → (Stands program (k + 1) → FitAt program k i) → k + 1 ≤ top → Part program top k (one w i) (k + 1)
+pub next : {program : List Coded} {top k : ℕ} (w : Place) (i : Instr) → ends_behind i ≡ None → (Stands program (k + 1) → WellFormedAt program k i) → k + 1 ≤ top → Part program top k (one w i) (k + 1)
 next w i n f l = plain w i n (λ t. f (omega (arith, t, l)))
 
 pub stuck : {program : List Coded} {top k : ℕ} (w : Place) → Part program top k (one w instr.Stuck) (k + 1)
@@ -116,7 +116,7 @@ module _ (program : List Coded) where
   text_stands k m h = record { head = h.head; is = ap text_of h.is }
 
   -- an aside from j to a text in front of it, from whose head on no text ends behind j
-  pub fit_aside : (h m j : ℕ) → Headed h m → m ≤ j → Piece program j h j → FitAside program j h
+  pub fit_aside : (h m j : ℕ) → Headed h m → m ≤ j → Piece program j h j → WellFormedAside program j h
   fit_aside h m j x l p = record {
     text = text_stands h m x;
     behind = m;

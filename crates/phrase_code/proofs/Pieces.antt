@@ -9,7 +9,7 @@ use Rattle.program_meaning.specs.State.{for_value, for_place}
 use Rattle.stack_code.specs.Instr as instr
 use Rattle.stack_code.specs.Instr.{Mode, the_value, the_place, as_asked, Reading}
 use Rattle.stack_code.specs.Code.{Coded}
-use Rattle.stack_code.specs.GoingOn.{StandsReading, FitAside}
+use Rattle.stack_code.specs.GoingOn.{StandsReading, WellFormedAside}
 use Rattle.phrase_code.specs.Sizes.{Kind, a_variable, an_array, a_name_formal, a_procedure_formal, a_procedure, a_label, Known, begin_size, make_size, result_size, named_size, goto_size, text_size, given_size, alone_size, back_size, size, jumps_size, parts_size}
 use Rattle.phrase_code.specs.Coding.{◌▸◌, one, Stand, Context, inner_text, kind_of_stand, begin_code, make_code, result_code, named_by, named_code, element_code, goto_by, goto_code, phrase_count, declare_code, declare_arrays_code, subarray_code, hand_on_code, jumps_code, bare_call, text_code, given_code, alone_code, back_code, source_of, links}
 use Rattle.phrase_code.proofs.Sizes.{length_code}
@@ -138,7 +138,7 @@ module _ (program : List Coded) where
 
   -- where an actual by value result is assigned back its text is entered
   abbrev pub EntersBack : FormalType → (k kr : ℕ) → Type 0
-  EntersBack (by_value_result t) k kr = FitAside program k kr
+  EntersBack (by_value_result t) k kr = WellFormedAside program k kr
   EntersBack f k kr = Unit {0}
 
   -- assigning back, where the text that is entered for its place stands in front

@@ -3,7 +3,7 @@ use Rattle.std.specs.Prelude.{◌≡◌, ℕ, ◌+◌, length, []}
 use Rattle.value_ops.specs.declared.places.Place.{Place}
 use Rattle.program_meaning.specs.Phrases.{Phrase}
 use Rattle.stack_code.specs.Instr.{Mode}
-use Rattle.stack_code.specs.GoingOn.{FitInstructions}
+use Rattle.stack_code.specs.GoingOn.{WellFormed}
 use Rattle.phrase_code.specs.Sizes.{size}
 use Rattle.phrase_code.specs.Coding.{Context, known, code, program_code}
 
@@ -13,5 +13,5 @@ pub record CodeIsSized : Type 0 where
   pub programs : (a : Phrase) → length (program_code a).instructions ≡ size [] a + 1
 
 -- Each instruction of a program's code goes on where one stands, and what it names is there.
-abbrev pub CodeIsFit : Type 0
-CodeIsFit = (a : Phrase) → FitInstructions (program_code a).instructions
+abbrev pub CodeIsWellFormed : Type 0
+CodeIsWellFormed = (a : Phrase) → WellFormed (program_code a).instructions

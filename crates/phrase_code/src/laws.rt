@@ -1,4 +1,4 @@
-ghost use Rattle.phrase_code.specs.Laws.{CodeIsFit, CodeIsSized};
+ghost use Rattle.phrase_code.specs.Laws.{CodeIsWellFormed, CodeIsSized};
 
 /// The code of a phrase has as many instructions as its size says.
 pub fn code_is_sized()
@@ -6,6 +6,6 @@ pub fn code_is_sized()
 {}
 
 /// Each instruction of a program's code goes on where one stands, and what it names is there.
-pub fn code_is_fit()
-    ensures { CodeIsFit }
+pub fn code_is_well_formed()
+    ensures { CodeIsWellFormed }
 {}

@@ -4,4 +4,4 @@
 
 mod laws;
 
-pub use laws::{code_is_fit, code_is_sized};
+pub use laws::{code_is_sized, code_is_well_formed};

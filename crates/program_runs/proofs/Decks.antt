@@ -18,7 +18,7 @@ use Rattle.stack_code.specs.Code.{Code}
 use Rattle.stack_code.specs.Run as table
 use Rattle.stack_code.specs.Run.{normal, stopped, machine_of}
 use Rattle.phrase_code.specs.Coding.{program_code}
-use Rattle.phrase_code.proofs.Fitting.{program_code_fits}
+use Rattle.phrase_code.proofs.Fitting.{program_code_is_well_formed}
 use Rattle.faultless_programs.proofs.Programs.{programs_without_faults_are_never_wrong}
 use Rattle.algolw_meaning.specs.DeckDiagnostics.{HasProgram, HasDiagnostics, deck_diagnostics}
 use Rattle.algolw_meaning.proofs.Found.{diagnostics_of_decks}
@@ -39,7 +39,7 @@ use Rattle.program_runs.proofs.Runs.{programs_run_as_they_mean}
 pub code_of_programs_is_right : CodeOfProgramsIsRight
 code_of_programs_is_right x e d =
     let runs : (set : Setting) → RunsAsItMeans set (program_phrase (program_of x)) = λ set. programs_run_as_they_mean set (program_of x) (programs_without_faults_are_never_wrong set x e d) in
-    record { fit = record { instructions = program_code_fits (program_phrase (program_of x)); runs = λ set. (runs set).run }; runs = runs }
+    record { well_formed = program_code_is_well_formed (program_phrase (program_of x)); ends = λ set. (runs set).run; runs = runs }
 
 -- what the tokens of a deck spell, without faults
 pub spelled_is_right : (deck : List (List ℕ)) (x : Phrase) → HasProgram deck x → program_faults x ≡ [] → HasRightCode (program_phrase (program_of x))

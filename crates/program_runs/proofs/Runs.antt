@@ -9,7 +9,7 @@ use Rattle.program_meaning.specs.Translating.{program_phrase}
 use Rattle.stack_code.specs.Code.{Code}
 use Rattle.stack_code.specs.Run as table
 use Rattle.stack_code.specs.Run.{normal, stopped}
-use Rattle.stack_code.specs.Fit.{Runs}
+use Rattle.stack_code.specs.Ending.{Runs}
 use Rattle.phrase_code.specs.Coding.{program_code}
 use Rattle.code_simulation.specs.Statement.{TableDoes}
 use Rattle.code_simulation.proofs.Running.{dump_closed, outcome_closed}

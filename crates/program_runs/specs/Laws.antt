@@ -13,8 +13,8 @@ use Rattle.program_meaning.specs.Translating.{program_phrase}
 use Rattle.stack_code.specs.Code.{Code}
 use Rattle.stack_code.specs.Run as table
 use Rattle.stack_code.specs.Run.{normal, stopped, machine_of}
-use Rattle.stack_code.specs.Fit.{Runs}
-use Rattle.stack_code.specs.GoingOn.{FitCode}
+use Rattle.stack_code.specs.Ending.{AlwaysEnds, Runs}
+use Rattle.stack_code.specs.GoingOn.{WellFormed}
 use Rattle.phrase_code.specs.Coding.{program_code}
 use Rattle.program_soundness.specs.Laws.{NeverGoesWrong, outcome_by_environments}
 use Rattle.faultless_programs.specs.Laws.{IsDeckTree}
@@ -52,9 +52,10 @@ ProgramsRunAsTheyMean = (set : Setting) (p : TypedProgram) → NeverGoesWrong se
 
 -- ---- decks
 
--- what the code of a program is: fit, and for all data and limits it runs as the program means
+-- what the code of a program is: it is well-formed, it always ends, and for all data and limits it runs as the program means
 pub record HasRightCode (program : phrases.Phrase) : Type 0 where
-  pub fit : FitCode (program_code program)
+  pub well_formed : WellFormed (program_code program).instructions
+  pub ends : AlwaysEnds (program_code program)
   pub runs : (set : Setting) → RunsAsItMeans set program
 
 -- So is that of every program without faults of a deck.

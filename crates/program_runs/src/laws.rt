@@ -1,8 +1,8 @@
 ghost use Rattle.program_runs.specs.Laws.{CodeOfDecksIsRight, CodeOfProgramsIsRight, JobsRunByTable, ProgramsRunAsTheyMean};
 
-/// The tokens of a deck that has no diagnostic spell a program. Its code is fit; and for all data and limits it comes in
-/// some number of rows, never stuck, to an end that shows what the program means, by environments and by copying: the
-/// ending, the statement, the steps, the lines, the counts and the dump.
+/// The tokens of a deck that has no diagnostic spell a program. Its code is well-formed, and always ends: for all data and
+/// limits it comes in some number of rows, never stuck, to an end. And the end shows what the program means, by
+/// environments and by copying: the ending, the statement, the steps, the lines, the counts and the dump.
 pub fn code_of_decks_is_right()
     ensures { CodeOfDecksIsRight }
 {}

@@ -1,5 +1,5 @@
 pub mod Outcomes
-pub mod Fit
+pub mod Ending
 pub mod Keeping
 pub mod Growing
 pub mod Linked

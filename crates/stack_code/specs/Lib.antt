@@ -4,7 +4,7 @@ pub mod Code
 pub mod Doing
 pub mod Table
 pub mod Run
-pub mod Fit
+pub mod Ending
 pub mod GoingOn
 pub mod Laws
 pub mod CodeView

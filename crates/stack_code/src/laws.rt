@@ -1,4 +1,4 @@
-ghost use Rattle.stack_code.specs.Fit.{OutcomesAreOne, RowsAreNotStuck};
+ghost use Rattle.stack_code.specs.Ending.{OutcomesAreOne, RowsAreNotStuck};
 ghost use Rattle.stack_code.specs.Laws.{OutcomesStay};
 ghost use Rattle.stack_code.specs.Made.{CodeIsMade, NumbersAreTold};
 

@@ -221,7 +221,7 @@ fn emit_procedure(
     ensures { IfOk result (λ m. (outside : Here) → outside.statement ≡ here.statement →
         blocks.CodesDecls emitter.old emitter.new outside here target (Proc procedure.now ∷ []) m) }
 {
-    let declared = declared_as(emitter, procedure)?;
+    let declared = declared_as(emitter, procedure);
     let opened = open_procedure(emitter, here, target, declared, procedure)?;
     let marks = emit_body(emitter, here, declared, procedure)?;
     close_procedure(emitter, here, procedure.result, opened)?;
@@ -229,14 +229,14 @@ fn emit_procedure(
 }
 
 /// What a procedure's name stands for.
-fn declared_as(emitter: &Emitter, procedure: &TypedProc) -> Result<Procedure, AllocError>
+fn declared_as(emitter: &Emitter, procedure: &TypedProc) -> Procedure
     requires { blocks.IsDeclared emitter.now.symbols procedure.now }
-    ensures formals { IfOk result (λ declared. formals_of emitter.now.symbols declared ≡ all_formals (formals_in procedure.now)) }
-    ensures counted { IfOk result (λ declared. declared.count ≡ length (all_formals (formals_in procedure.now))) }
+    ensures formals { formals_of emitter.now.symbols result ≡ all_formals (formals_in procedure.now) }
+    ensures counted { result.count ≡ length (all_formals (formals_in procedure.now)) }
 {
     match emitter.symbols.standing(procedure.name.0) {
-        Standing::Procedure(declared) => Ok(declared),
-        _ => Err(AllocError),
+        Standing::Procedure(declared) => declared,
+        _ => unreachable!(),
     }
 }
 

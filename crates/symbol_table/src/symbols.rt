@@ -81,6 +81,16 @@ fn class_numbers(
     Ok(classes)
 }
 
+/// The formals from one on.
+fn formals_from(formals: &[Formal], first: usize) -> &[Formal]
+    ensures { result.now ≡ drop first formals.now }
+{
+    match formals.get(first..) {
+        Some(behind) => behind,
+        None => &[],
+    }
+}
+
 /// So many formals from one on.
 fn some_formals(
     alloc: Global,
@@ -90,12 +100,8 @@ fn some_formals(
 ) -> Result<Vec<Formal>, AllocError>
     ensures { IfOk result (λ some. some.items ≡ take count (drop first formals.now)) }
 {
-    formals
-        .iter()
-        .skip(first)
-        .take(count)
-        .copied()
-        .collect(alloc)
+    let behind = formals_from(formals, first);
+    behind.iter().take(count).copied().collect(alloc)
 }
 
 impl Symbols {

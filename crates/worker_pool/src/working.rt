@@ -1,5 +1,5 @@
 //! What a worker does.
-ghost use Rattle.std.specs.Prelude.{◌≡◌, None};
+ghost use Rattle.std.specs.Prelude.{◌≡◌, ◌≤◌, None};
 ghost use Rattle.worker_pool.specs.Ends.{debt_of, debt_in};
 ghost use Rattle.worker_pool.specs.Jobs.{IsFlawless};
 
@@ -8,18 +8,22 @@ use batch_io::Gate;
 use deck_reader::Job;
 use job_queue::{JobQueue, QueueBrand, TakePass, Ticket};
 use job_runner::{Desk, run_job};
-use office::{Office, Standing};
+use office::{Admitted, Office, Standing};
 use std::alloc::{AllocError, Global};
 use std::sync::{Arc, Mutex, Wait};
 use std::thread;
 use std::thread::Parker;
 use std::time::Duration;
 
-/// How often a worker that finds no ticket looks again at once.
+/// How often a worker that finds nothing to do looks again at once, before it naps.
 const LOOKS: u32 = 100;
 
-/// For how many microseconds it naps before each later look, so that a processor without work isn't kept busy.
-const NAP: u64 = 100;
+/// How many microseconds its first nap has. Each further one has twice as many, so that a processor without work isn't kept
+/// busy.
+const SHORTEST_NAP: u64 = 100;
+
+/// How many microseconds a nap has at most, so that a job that comes doesn't wait longer.
+const LONGEST_NAP: u64 = 10_000;
 
 /// Works until the office is over: takes a ticket, runs its job and settles it; where there is no ticket, lets the office
 /// decide the next job. Where a ticket can't be settled the office is stopped, and the ticket is brought back. The pass
@@ -37,20 +41,21 @@ pub fn work<B: QueueBrand, R: Wait, G: Gate>(
     ensures owed { pass.new.owed ≡ debt_of result }
     ensures parts { pass.new.share.parts ≡ pass.old.share.parts }
 {
-    let idle = Parker::new();
-    let mut looks = 0;
+    let mut idle = Idle::new();
     for _ in rt.forever() {
         if office.lock(rt).is_over() {
             return WorkEnd::Over;
         }
         match queue.take(rt, pass) {
             None => {
-                office.lock(rt).admit(rt, queue);
-                rest(rt, &idle, looks);
-                looks = looks.saturating_add(1);
+                if decides(rt, office, queue) {
+                    idle.end();
+                } else {
+                    idle.rest(rt);
+                }
             }
             Some(ticket) => {
-                looks = 0;
+                idle.end();
                 if let Some(end) = serve(rt, alloc, office, pass, ticket, desk, gate) {
                     office.lock(rt).stop();
                     return end;
@@ -61,16 +66,53 @@ pub fn work<B: QueueBrand, R: Wait, G: Gate>(
     unreachable!()
 }
 
-/// Waits for the next look, behind so many that have found nothing. The first of them has perhaps decided a job, and
-/// isn't waited for.
-fn rest<R: Wait>(rt: &R, idle: &Parker, looks: u32) {
-    if looks == 0 {
-        return;
+/// How a worker waits that finds nothing to do.
+#[derive(Drop)]
+struct Idle {
+    parker: Parker,
+    /// How often it looks at once before it naps.
+    looks: u32,
+    /// How many microseconds its next nap has.
+    nap: u64,
+    ghost short: { nap ≤ 10000 },
+}
+
+impl Idle {
+    /// Before the first look.
+    fn new() -> Idle {
+        Idle {
+            parker: Parker::new(),
+            looks: LOOKS,
+            nap: SHORTEST_NAP,
+        }
     }
-    if looks < LOOKS {
-        thread::yield_now();
-    } else {
-        idle.park_timeout(rt, Duration::from_micros(NAP));
+
+    /// Waits for the next look: at first not at all, then for naps that grow.
+    fn rest<R: Wait>(&mut self, rt: &R) {
+        if self.looks > 0 {
+            self.looks -= 1;
+            thread::yield_now();
+        } else {
+            self.parker
+                .park_timeout(rt, Duration::from_micros(self.nap));
+            self.nap = (2 * self.nap).min(LONGEST_NAP);
+        }
+    }
+
+    /// There was something to do, so more may come soon.
+    fn end(&mut self) {
+        self.looks = LOOKS;
+        self.nap = SHORTEST_NAP;
+    }
+}
+
+/// Lets the office decide the next job. Whether it has decided one.
+fn decides<B: QueueBrand, R: Wait>(rt: &R, office: &Mutex<Office<B>>, queue: &JobQueue<B>) -> bool {
+    // The lock is given back before the answer is looked at.
+    let admitted = office.lock(rt).admit(rt, queue);
+    match admitted {
+        Admitted::Accepted { .. } | Admitted::Refused { .. } | Admitted::Flawed { .. } => true,
+        Admitted::Waits { .. } | Admitted::Full { .. } | Admitted::NoneArrived => false,
     }
 }
 

@@ -1032,14 +1032,14 @@ pub blocks::emit_bounds-returns : goal.blocks::emit_bounds-returns
 blocks::emit_bounds-returns t c =
     bounds_done c.args.here c.args.bounds.now c.loop-bound.bound-index c.in_ok-number.field-0 (omega (arith, c.loop-bound-test.false)) (c.in_ok-number.ensures) c.loop-bound.invariant c.in_ok-append.ensures.appended
 
-pub blocks::emit_procedure-declared_as-requires : goal.blocks::emit_procedure-declared_as-requires
-blocks::emit_procedure-declared_as-requires t c = c.requires.declared
+pub blocks::emit_procedure-declared_as-declared-requires : goal.blocks::emit_procedure-declared_as-declared-requires
+blocks::emit_procedure-declared_as-declared-requires t c = c.requires.declared
 
 pub blocks::emit_procedure-open_procedure-requires-clause-ready : goal.blocks::emit_procedure-open_procedure-requires-clause-ready
 blocks::emit_procedure-open_procedure-requires-clause-ready t c = c.requires.ready
 
 pub blocks::emit_procedure-open_procedure-requires-clause-formals : goal.blocks::emit_procedure-open_procedure-requires-clause-formals
-blocks::emit_procedure-open_procedure-requires-clause-formals t c = c.in_ok-declared.ensures.formals
+blocks::emit_procedure-open_procedure-requires-clause-formals t c = c.declared_as-declared.ensures.formals
 
 pub blocks::emit_procedure-open_procedure-requires-clause-reserved : goal.blocks::emit_procedure-open_procedure-requires-clause-reserved
 blocks::emit_procedure-open_procedure-requires-clause-reserved t c = let there = c.requires.reserved.there in omega (arith, there)
@@ -1050,8 +1050,8 @@ blocks::emit_procedure-emit_body-requires t c = (
   (
     opened_ready c.args.emitter.now c.open_procedure.new.emitter c.args.here c.args.target c.args.procedure.now c.in_ok-opened.opened c.requires.ready c.in_ok-opened.ensures,
     (
-      opened_formals c.args.emitter.now c.open_procedure.new.emitter c.args.here c.args.target c.args.procedure.now c.in_ok-opened.opened c.requires.ready c.in_ok-opened.ensures c.in_ok-declared.declared c.in_ok-declared.ensures.formals,
-      c.in_ok-declared.ensures.counted,
+      opened_formals c.args.emitter.now c.open_procedure.new.emitter c.args.here c.args.target c.args.procedure.now c.in_ok-opened.opened c.requires.ready c.in_ok-opened.ensures c.declared_as-declared.result c.declared_as-declared.ensures.formals,
+      c.declared_as-declared.ensures.counted,
     ),
   ),
 )

@@ -9,11 +9,11 @@ use Rattle.algolw_meaning.specs.Running.{setting_of}
 use Rattle.algolw_meaning.proofs.Within.{job_within}
 use Rattle.job_runner.specs.Counted.{IsCounted, IsWithinSteps}
 use Rattle.job_runner.specs.Shown.{ShowsRun}
-use Rattle.job_runner.proofs.Ran.{begun_of, code_is_fit, counted, ended_is, shows_run, within_steps}
+use Rattle.job_runner.proofs.Ran.{begun_of, code_ends, counted, ended_is, shows_run, within_steps}
 use Rattle.job_runner.proofs.run.run_code.Goals as goal
 
-pub run_prepared-outcome-requires-clause-fit : goal.run_prepared-outcome-requires-clause-fit
-run_prepared-outcome-requires-clause-fit c = code_is_fit c.args.job.now.value c.args.code.now c.requires.code
+pub run_prepared-outcome-requires-clause-ends : goal.run_prepared-outcome-requires-clause-ends
+run_prepared-outcome-requires-clause-ends c = code_ends c.args.job.now.value c.args.code.now c.requires.code
 
 pub run_section-requires : goal.run_section-requires
 run_section-requires c =

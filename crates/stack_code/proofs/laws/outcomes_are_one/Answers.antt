@@ -1,4 +1,4 @@
-use Rattle.stack_code.proofs.Fit.{outcomes_are_one}
+use Rattle.stack_code.proofs.Ending.{outcomes_are_one}
 use Rattle.stack_code.proofs.laws.outcomes_are_one.Goals as goal
 
 pub returns : goal.returns

@@ -1,4 +1,4 @@
-use Rattle.stack_code.proofs.Fit.{rows_are_not_stuck}
+use Rattle.stack_code.proofs.Ending.{rows_are_not_stuck}
 use Rattle.stack_code.proofs.laws.rows_are_not_stuck.Goals as goal
 
 pub returns : goal.returns

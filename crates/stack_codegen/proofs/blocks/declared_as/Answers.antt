@@ -3,8 +3,11 @@ use Rattle.symbol_table.specs.Standings.{standing_of}
 use Rattle.stack_codegen.proofs.ProcedureBodies.{declared_is, named_is}
 use Rattle.stack_codegen.proofs.blocks.declared_as.Goals as goal
 
-pub returns-in-Procedure-clause-formals : goal.returns-in-Procedure-clause-formals
-returns-in-Procedure-clause-formals c = (declared_is c.args.emitter.now.symbols c.args.procedure.now c.in-Procedure.declared (c.in-Procedure.ensures ∙ ap (λ x. standing_of c.args.emitter.now.symbols.names x.0) (named_is c.args.procedure.now)) c.requires).0
+pub returns-clause-formals : goal.returns-clause-formals
+returns-clause-formals c = (declared_is c.args.emitter.now.symbols c.args.procedure.now c.in-Procedure.declared (c.in-Procedure.ensures ∙ ap (λ x. standing_of c.args.emitter.now.symbols.names x.0) (named_is c.args.procedure.now)) c.requires).0
 
-pub returns-in-Procedure-clause-counted : goal.returns-in-Procedure-clause-counted
-returns-in-Procedure-clause-counted c = (declared_is c.args.emitter.now.symbols c.args.procedure.now c.in-Procedure.declared (c.in-Procedure.ensures ∙ ap (λ x. standing_of c.args.emitter.now.symbols.names x.0) (named_is c.args.procedure.now)) c.requires).1
+pub returns-clause-counted : goal.returns-clause-counted
+returns-clause-counted c = (declared_is c.args.emitter.now.symbols c.args.procedure.now c.in-Procedure.declared (c.in-Procedure.ensures ∙ ap (λ x. standing_of c.args.emitter.now.symbols.names x.0) (named_is c.args.procedure.now)) c.requires).1
+
+pub unreachable-requires : goal.unreachable-requires
+unreachable-requires c = c.in_default.not-Procedure c.requires.procedure (c.standing.ensures ∙ ap (λ x. standing_of c.args.emitter.now.symbols.names x.0) (named_is c.args.procedure.now) ∙ c.requires.stands)

@@ -1,10 +1,7 @@
-use Rattle.std.proofs.Common.{◌≡◌, ◌+◌, ◌++◌, ◌∷◌, [], ℕ, None, get_or, ◌∙◌, ap, set, sym, subst, refl, arith}
-use Rattle.algolw_meaning.specs.declared.brought.Brought.{Brought}
+use Rattle.std.proofs.Common.{◌≡◌, ◌+◌, ◌++◌, ◌∷◌, [], ℕ, None, ◌∙◌, ap, set, refl, arith}
 use Rattle.batch_core.specs.declared.event.Event.TheVariants.{Print}
 use Rattle.batch_core.specs.Events.{MayPrint, step}
-use Rattle.office.specs.Register.{RegisterView}
-use Rattle.office.specs.Standings.{Brings, brought_by}
-use Rattle.office.proofs.Printing.{brings}
+use Rattle.office.proofs.Printing.{brings_told}
 use Rattle.office.proofs.Room.{rebuilt, registered_print, room_to_print}
 use Rattle.office.proofs.register.Register.print.Goals as goal
 
@@ -23,12 +20,14 @@ invariant_of-self c =
     rebuilt _ _ _ _ _ _ _ _ _ (c.step.ensures ∙ ap (λ (n : ℕ). step s.core (Print n)) at) (c.push_reserved.ensures.items ∙ ap (λ (n : ℕ). s.journal.items ++ Print n ∷ []) at)
     refl (c.hand_out.ensures.rest ∙ ap (λ (n : ℕ). set s.results.items n None) place) refl c.push_reserved.ensures.capacity (registered_print _ _ _ c.self.invariant may)
 
-pub returns-clause-brought : goal.returns-clause-brought
-returns-clause-brought c =
-    let s = c.self.inside in
-    let may : MayPrint s.core = c.may_print.ensures.0 c.if-not-may_print.false in
-    let is : c.brought_of.result ≡ brought_by (get_or s.results.items s.core.printed None) =
-    c.brought_of.ensures ∙ ap brought_by (c.hand_out.ensures.result ∙ ap (λ (n : ℕ). get_or s.results.items n None) c.printed-place.ensures) in
-    let told = brings _ c.self.invariant.stands may in
-    let known : Brings c.args.self.now (brought_by (get_or s.results.items s.core.printed None)) = subst (λ (r : RegisterView). Brings r (brought_by (get_or s.results.items s.core.printed None))) c.self.view_is told in
-    subst (λ (brought : Brought). Brings c.args.self.now brought) (sym is) known
+pub returns-clause-standing : goal.returns-clause-standing
+returns-clause-standing c =
+    let may : MayPrint c.self.inside.core = c.may_print.ensures.0 c.if-not-may_print.false in
+    let told = brings_told _ c.args.self.now c.brought_of.result c.printed-place.result _ c.self.invariant.stands may c.self.view_is c.brought_of.ensures c.hand_out.ensures.result c.printed-place.ensures in
+    told.standing
+
+pub returns-clause-result : goal.returns-clause-result
+returns-clause-result c =
+    let may : MayPrint c.self.inside.core = c.may_print.ensures.0 c.if-not-may_print.false in
+    let told = brings_told _ c.args.self.now c.brought_of.result c.printed-place.result _ c.self.invariant.stands may c.self.view_is c.brought_of.ensures c.hand_out.ensures.result c.printed-place.ensures in
+    told.result
