@@ -4,7 +4,7 @@ use Rattle.std.specs.Io.KnownBytes.{Consumes, IsAtEnd}
 use Rattle.batch_io.specs.Causes.{Rose}
 use Rattle.deck_reader.specs.declared.batch.Account.{Account}
 use Rattle.deck_reader.specs.declared.reader.Reader.{Reader}
-use Rattle.deck_reader.specs.Batch.{batch, known_accounts, passes, too_large}
+use Rattle.deck_reader.specs.Batch.{batch_with, known_accounts, passes, too_large}
 use Rattle.deck_reader.specs.Fed.{StandsFor}
 use Rattle.deck_reader.specs.JobView.{JobView}
 use Rattle.batch_intake.specs.declared.halt.Halt.{Halt}
@@ -27,13 +27,13 @@ stray_of intake = intake.stray
 
 -- where there is a reader, it stands for the input so far, these jobs were taken from it, and these are the accounts; where there is none, the
 -- input has ended, and all of its batch is known
-abbrev pub Knows : Option Reader → Option (List ℕ) → List Account → List JobView → ℕ → List ℕ → Type 0
-Knows (Some reader) left accounts jobs stray input = StandsFor reader jobs input × (known_accounts input ≡ Some accounts)
-Knows None left accounts jobs stray input = IsAtEnd left × (too_large input ≡ false) × (batch input ≡ record { accounts = accounts; jobs = jobs; stray = stray })
+abbrev pub Knows : Option (List Account) → Option Reader → Option (List ℕ) → List Account → List JobView → ℕ → List ℕ → Type 0
+Knows given (Some reader) left accounts jobs stray input = StandsFor given reader jobs input × (known_accounts given input ≡ Some accounts)
+Knows given None left accounts jobs stray input = IsAtEnd left × (too_large input ≡ false) × (batch_with given input ≡ record { accounts = accounts; jobs = jobs; stray = stray })
 
 -- the intake of a batch with these accounts has read this input
-abbrev pub HasRead : Intake → Option (List ℕ) → List Account → List ℕ → Type 0
-HasRead intake left accounts input = Knows (reader_of intake) left accounts (jobs_by intake) (stray_of intake) input
+abbrev pub HasRead : Option (List Account) → Intake → Option (List ℕ) → List Account → List ℕ → Type 0
+HasRead given intake left accounts input = Knows given (reader_of intake) left accounts (jobs_by intake) (stray_of intake) input
 
 -- why reading stopped: a read that failed was counted, nothing was written, and what was read is too large only where this holds
 abbrev pub StopCause : Halt → ℕ → ℕ → Type 0 → Type 0
@@ -46,7 +46,7 @@ StopCause TooLarge faults faults' Large = Large
 pub record HasFed (old new : Reader) (left left' : Option (List ℕ)) (faults faults' : ℕ) (more : Bool) : Type 0 where
   pub piece : List ℕ
   pub read : Consumes left left' piece
-  pub fed : (taken : List JobView) (input : List ℕ) → StandsFor old taken input → StandsFor new taken (input ++ piece)
+  pub fed : (given : Option (List Account)) (taken : List JobView) (input : List ℕ) → StandsFor given old taken input → StandsFor given new taken (input ++ piece)
   pub some : more ≡ true → 0 < length piece
   pub to_end : more ≡ false → IsAtEnd left'
   pub kept : faults' ≡ faults
@@ -55,13 +55,13 @@ pub record HasFed (old new : Reader) (left left' : Option (List ℕ)) (faults fa
 pub record StopsFeeding (old : Reader) (left left' : Option (List ℕ)) (faults faults' : ℕ) (halt : Halt) : Type 0 where
   pub piece : List ℕ
   pub read : Consumes left left' piece
-  pub cause : StopCause halt faults faults' ((taken : List JobView) (input : List ℕ) → StandsFor old taken input → passes (input ++ piece) ≡ true)
+  pub cause : StopCause halt faults faults' ((given : Option (List Account)) (taken : List JobView) (input : List ℕ) → StandsFor given old taken input → passes (input ++ piece) ≡ true)
 
 -- a batch is read on by a piece; the jobs stay the first ones
 pub record ReadsOn (old new : Intake) (left left' : Option (List ℕ)) (faults faults' : ℕ) : Type 0 where
   pub piece : List ℕ
   pub read : Consumes left left' piece
-  pub known : (accounts : List Account) (input : List ℕ) → HasRead old left accounts input → HasRead new left' accounts (input ++ piece)
+  pub known : (given : Option (List Account)) (accounts : List Account) (input : List ℕ) → HasRead given old left accounts input → HasRead given new left' accounts (input ++ piece)
   pub more : (rest : List JobView) × (jobs_by new ≡ jobs_by old ++ rest)
   pub kept : faults' ≡ faults
 
@@ -71,23 +71,23 @@ pub record StopsReading (old : Intake) (left left' : Option (List ℕ)) (faults 
   pub piece : List ℕ
   pub read : Consumes left left' piece
   pub cause :
-      StopCause halt faults faults' ((accounts : List Account) (input : List ℕ) → HasRead old left accounts input → (passes (input ++ piece) ≡ true) ⊎ (IsAtEnd left' × (too_large (input ++ piece) ≡ true)))
+      StopCause halt faults faults' ((given : Option (List Account)) (accounts : List Account) (input : List ℕ) → HasRead given old left accounts input → (passes (input ++ piece) ≡ true) ⊎ (IsAtEnd left' × (too_large (input ++ piece) ≡ true)))
 
 -- a batch whose input has ended is read whole
 pub record Ends (old new : Intake) : Type 0 where
-  pub known : (left : Option (List ℕ)) (accounts : List Account) (input : List ℕ) → IsAtEnd left → HasRead old left accounts input → HasRead new left accounts input
+  pub known : (given : Option (List Account)) (left : Option (List ℕ)) (accounts : List Account) (input : List ℕ) → IsAtEnd left → HasRead given old left accounts input → HasRead given new left accounts input
   pub more : (rest : List JobView) × (jobs_by new ≡ jobs_by old ++ rest)
 
 -- the accounts of a batch, of which so much was read, are known
-pub record Opens (left left' : Option (List ℕ)) (front : Front) : Type 0 where
+pub record Opens (given : Option (List Account)) (left left' : Option (List ℕ)) (front : Front) : Type 0 where
   pub input : List ℕ
   pub read : Consumes left left' input
-  pub known : HasRead front.intake left' front.accounts.items input
+  pub known : HasRead given front.intake left' front.accounts.items input
   pub few : length front.accounts.items ≤ 500
 
 -- the whole batch is
-pub record IsWhole (front : Front) (input : List ℕ) : Type 0 where
-  pub known : (left : Option (List ℕ)) → IsAtEnd left → HasRead front.intake left front.accounts.items input
+pub record IsWhole (given : Option (List Account)) (front : Front) (input : List ℕ) : Type 0 where
+  pub known : (left : Option (List ℕ)) → IsAtEnd left → HasRead given front.intake left front.accounts.items input
   pub few : length front.accounts.items ≤ 500
 
 -- they aren't

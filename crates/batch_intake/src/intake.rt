@@ -27,8 +27,8 @@ pub struct Intake {
 impl Intake {
     /// Of a reader from which no job was taken.
     pub fn open(alloc: Global, reader: Reader) -> Result<Intake, AllocError>
-        ensures { (left : Option (List ℕ)) (accounts : List Account) (input : List ℕ) → StandsFor reader [] input →
-            known_accounts input ≡ Some accounts → IfOk result (λ intake. HasRead intake left accounts input) }
+        ensures { (given : Option (List Account)) (left : Option (List ℕ)) (accounts : List Account) (input : List ℕ) → StandsFor given reader [] input →
+            known_accounts given input ≡ Some accounts → IfOk result (λ intake. HasRead given intake left accounts input) }
     {
         let mut reader = reader;
         let mut jobs = Vec::new(alloc);
@@ -87,8 +87,8 @@ impl Intake {
     /// Takes the last jobs of an input that has ended.
     fn end(&mut self) -> Result<(), Halt>
         ensures ok { OnOk result (Ends self.old self.new) }
-        ensures large { (left : Option (List ℕ)) (accounts : List Account) (input : List ℕ) →
-            HasRead self.old left accounts input → IsErrOf result Halt.TooLarge → too_large input ≡ true }
+        ensures large { (given : Option (List Account)) (left : Option (List ℕ)) (accounts : List Account) (input : List ℕ) →
+            HasRead given self.old left accounts input → IsErrOf result Halt.TooLarge → too_large input ≡ true }
         ensures going { IsErr result → reader_of self.old ≡ None → ⊥ }
         ensures read { IsErrOf result Halt.ReadFault → ⊥ }
         ensures write { IsErrOf result Halt.WriteFault → ⊥ }
@@ -109,8 +109,8 @@ fn take_ended(
     reader: &mut Reader,
     jobs: &mut Vec<Arc<Job>>,
 ) -> Result<(), AllocError>
-    ensures stands { (input : List ℕ) → StandsFor reader.old (map (λ j. j.value) jobs.old.items) input →
-        OnOk result (StandsFor reader.new (map (λ j. j.value) jobs.new.items) input) }
+    ensures stands { (given : Option (List Account)) (input : List ℕ) → StandsFor given reader.old (map (λ j. j.value) jobs.old.items) input →
+        OnOk result (StandsFor given reader.new (map (λ j. j.value) jobs.new.items) input) }
     ensures more { OnOk result ((rest : List JobView) × (map (λ j. j.value) jobs.new.items ≡ map (λ j. j.value) jobs.old.items ++ rest)) }
 {
     while let Some(job) = reader.take_job() {

@@ -1,4 +1,5 @@
-ghost use Rattle.std.specs.Prelude.{◌≡◌, [], List, ℕ, true, IfErr, IfOk, IsErrOf, OnOk};
+ghost use Rattle.std.specs.Prelude.{◌≡◌, ◌≤◌, [], List, Option, ℕ, length, true, IfErr, IfOk, IfSome, IsErrOf, OnOk};
+ghost use Rattle.deck_reader.specs.declared.batch.Account.{Account};
 ghost use Rattle.deck_reader.specs.Batch.{too_large};
 ghost use Rattle.deck_reader.specs.Fed.{StandsFor};
 ghost use Rattle.batch_intake.specs.Taking.{HasFed, IsWhole, Opens, StopsFeeding, StopsFront};
@@ -6,8 +7,8 @@ ghost use Rattle.batch_intake.specs.Taking.{HasFed, IsWhole, Opens, StopsFeeding
 use crate::halt::Halt;
 use crate::intake::Intake;
 use batch_io::Source;
-use deck_reader::{Account, Reader};
-use std::alloc::Global;
+use deck_reader::{Account, Listed, Reader};
+use std::alloc::{AllocError, Global};
 
 /// How many bytes are read at a time.
 const PIECE: usize = 4096;
@@ -20,13 +21,19 @@ pub struct Front {
     pub intake: Intake,
 }
 
-/// Reads until the accounts are known, or the input has ended.
-pub fn read_front<S: Source>(alloc: Global, src: &mut S) -> Result<Front, Halt>
-    ensures ok { IfOk result (λ front. Opens (S.left src.old) (S.left src.new) front) }
+/// Reads until the accounts are known, or the input has ended. The accounts are those that are given, or else those that the
+/// cards open.
+pub fn read_front<S: Source>(
+    alloc: Global,
+    given: Option<Listed<Account>>,
+    src: &mut S,
+) -> Result<Front, Halt>
+    requires { IfSome given (λ accounts. length accounts ≤ 500) }
+    ensures ok { IfOk result (λ front. Opens given (S.left src.old) (S.left src.new) front) }
     ensures kept { OnOk result (S.faults src.new ≡ S.faults src.old) }
     ensures err { IfErr result (λ halt. StopsFront (S.left src.old) (S.left src.new) (S.faults src.old) (S.faults src.new) halt) }
 {
-    let mut reader = Reader::new(alloc)?;
+    let mut reader = reader_with(alloc, given)?;
     loop {
         let more = feed_piece(&mut reader, src)?;
         if more {
@@ -41,10 +48,21 @@ pub fn read_front<S: Source>(alloc: Global, src: &mut S) -> Result<Front, Halt>
     }
 }
 
+/// A reader that was fed nothing, of a batch with the accounts that are given, where they are.
+fn reader_with(alloc: Global, given: Option<Listed<Account>>) -> Result<Reader, AllocError>
+    requires { IfSome given (λ accounts. length accounts ≤ 500) }
+    ensures { IfOk result (λ reader. StandsFor given reader [] []) }
+{
+    match given {
+        Some(accounts) => Reader::with_accounts(alloc, accounts),
+        None => Reader::new(alloc),
+    }
+}
+
 /// What is known where the input has ended.
 fn whole(alloc: Global, reader: Reader) -> Result<Front, Halt>
-    ensures ok { (input : List ℕ) → StandsFor reader [] input → IfOk result (λ front. IsWhole front input) }
-    ensures large { (input : List ℕ) → StandsFor reader [] input → IsErrOf result Halt.TooLarge → too_large input ≡ true }
+    ensures ok { (given : Option (List Account)) (input : List ℕ) → StandsFor given reader [] input → IfOk result (λ front. IsWhole given front input) }
+    ensures large { (given : Option (List Account)) (input : List ℕ) → StandsFor given reader [] input → IsErrOf result Halt.TooLarge → too_large input ≡ true }
     ensures read { IsErrOf result Halt.ReadFault → ⊥ }
     ensures write { IsErrOf result Halt.WriteFault → ⊥ }
 {

@@ -5,16 +5,17 @@ ghost use Rattle.account_book.specs.Charges.{charge};
 ghost use Rattle.account_book.specs.Places.{claim_of, is_accepted, lowered, settled};
 ghost use Rattle.algolw_meaning.specs.Running.{job_result};
 ghost use Rattle.batch_listing.specs.Texts.{closing};
-ghost use Rattle.batch_listing.specs.Listing.{accepted, body, charged, closing_lines, decision, section};
+ghost use Rattle.batch_listing.specs.Listing.{accepted, body, charged, closed_accounts, closing_lines, decision, section};
 ghost use Rattle.batch_listing.specs.Behind.{Fits, IsBehind};
 ghost use Rattle.batch_summary.specs.Tally.{tally_with};
 ghost use Rattle.batch_listing.specs.Tallies.{ended_so, entry_by, sections_tally};
 
+use crate::closing::with_balances;
 use crate::decision::{Decision, decide};
 use crate::lines::{self, heading};
 use account_book::{Book, charge_of};
 use batch_summary::{Entry, Outcome, Tally};
-use deck_reader::Job;
+use deck_reader::{Account, Job};
 use job_runner::{Brought, Desk, Ended, Ending, run_job};
 use std::alloc::{AllocError, Global};
 use std::sync::Arc;
@@ -119,6 +120,14 @@ impl Audit {
         lines::push_balances(&mut out, self.book.accounts(), self.book.balances())?;
         lines::push_stray(&mut out, stray)?;
         Ok(out)
+    }
+
+    /// The accounts, each with its balance behind the sections that were made as its opening.
+    pub fn closing_accounts(&self, alloc: Global) -> Result<Vec<Account>, AllocError>
+        ensures { (jobs : List JobView) → IsBehind self.now.book jobs → IfOk result (λ v.
+            v.items ≡ closed_accounts (openings_of self.now.book.accounts) jobs self.now.book.accounts) }
+    {
+        with_balances(alloc, self.book.accounts(), self.book.balances())
     }
 
     /// Adds the body of a section, and settles what its job is charged.

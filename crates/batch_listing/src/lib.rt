@@ -2,6 +2,7 @@
 #![tactic(auto)]
 
 mod audit;
+mod closing;
 mod decision;
 mod laws;
 mod lines;

@@ -1,3 +1,5 @@
+pub mod Closed
+pub mod Closings
 pub mod Endings
 pub mod Known
 pub mod SaidOrders

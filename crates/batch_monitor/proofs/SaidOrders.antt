@@ -1,15 +1,16 @@
 -- What is known of what the command words say.
-use Rattle.std.proofs.Common.{◌≡◌, ◌≤◌, ◌∙◌, ℕ, Bool, true, false, Option, Some, None, List, arith, refl, ap, sym, subst}
+use Rattle.std.proofs.Common.{◌≡◌, ◌⊎◌, ◌≤◌, ◌∙◌, inl, inr, ℕ, Bool, true, false, Option, Some, None, List, arith, refl, ap, sym, subst}
 use Rattle.std.specs.Prelude.{◌&&◌, codes, if◌then◌else◌, unwrap_or}
 use Rattle.std.specs.Int.{is_in_range}
 use Rattle.std.specs.Str.Parse.{digits_value}
 use Rattle.std.proofs.lemmas.Bool.{leb-true}
 use Rattle.command_words.specs.declared.order.Order.{Order}
 use Rattle.command_words.specs.declared.order.Order.TheVariants.{Run, Make}
-use Rattle.command_words.specs.Form.{IsOrder, Text, Use, is_number, make_from, number_in, number_or, order_from, run_from, value_of}
+use Rattle.command_words.specs.Form.{IsOrder, Text, Use, is_number, make_from, number_in, number_or, order_from, run_from, has_flag, value_of}
 use Rattle.command_words.proofs.Fresh.{and_first, and_second}
 use Rattle.command_words.proofs.Orders.{order_is_given}
-use Rattle.batch_monitor.specs.Orders.{SaysMake, SaysRun}
+use Rattle.batch_monitor.specs.declared.asked.Asked.{Asked}
+use Rattle.batch_monitor.specs.Orders.{SaysAccounts, SaysMake, SaysRun}
 
 -- ---- how many jobs
 
@@ -31,21 +32,22 @@ jobs_given (Some a) (Some b) None q seed jobs workers queue e = cc
 jobs_given (Some a) None w q seed jobs workers queue e = cc
 jobs_given None n w q seed jobs workers queue e = cc
 
-run_makes_none : (w q : Option ℕ) (seed jobs workers queue : ℕ) → run_from w q ≡ Some (Make seed jobs workers queue) → ⊥
-run_makes_none (Some a) (Some b) seed jobs workers queue e = cc
-run_makes_none (Some a) None seed jobs workers queue e = cc
-run_makes_none None q seed jobs workers queue e = cc
+run_makes_none : (k : Bool) (w q : Option ℕ) (seed jobs workers queue : ℕ) → run_from k w q ≡ Some (Make seed jobs workers queue) → ⊥
+run_makes_none k (Some a) (Some b) seed jobs workers queue e = cc
+run_makes_none k (Some a) None seed jobs workers queue e = cc
+run_makes_none k None q seed jobs workers queue e = cc
 
-in_range : (m j : Option Text) (w q : Option ℕ) (seed jobs workers queue : ℕ) → order_from m j w q ≡ Some (Make seed jobs workers queue) → jobs ≤ 2000
-in_range None None w q seed jobs workers queue e = absurd (run_makes_none w q seed jobs workers queue e)
-in_range None (Some j) w q seed jobs workers queue e = cc
-in_range (Some m) None w q seed jobs workers queue e = cc
-in_range (Some m) (Some j) w q seed jobs workers queue e = most_jobs j jobs (jobs_given (number_in 0 4294967295 m) (number_in 1 2000 j) w q seed jobs workers queue e)
+in_range : (m j : Option Text) (k : Bool) (w q : Option ℕ) (seed jobs workers queue : ℕ) → order_from m j k w q ≡ Some (Make seed jobs workers queue) → jobs ≤ 2000
+in_range None None k w q seed jobs workers queue e = absurd (run_makes_none k w q seed jobs workers queue e)
+in_range None (Some j) k w q seed jobs workers queue e = cc
+in_range (Some m) None k w q seed jobs workers queue e = cc
+in_range (Some m) (Some j) true w q seed jobs workers queue e = cc
+in_range (Some m) (Some j) false w q seed jobs workers queue e = most_jobs j jobs (jobs_given (number_in 0 4294967295 m) (number_in 1 2000 j) w q seed jobs workers queue e)
 
 -- a batch of at most 2,000 jobs is made
 pub jobs_in_range : (words : List Text) (seed jobs workers queue : ℕ) → IsOrder words (Make seed jobs workers queue) → jobs ≤ 2000
 jobs_in_range words seed jobs workers queue h =
-    in_range (value_of (codes "make") h.uses) (value_of (codes "jobs") h.uses) (number_or 4 1 16 (value_of (codes "workers") h.uses)) (number_or 8 1 64 (value_of (codes "queue") h.uses))
+    in_range (value_of (codes "make") h.uses) (value_of (codes "jobs") h.uses) (has_flag (codes "accounts") h.uses) (number_or 4 1 16 (value_of (codes "workers") h.uses)) (number_or 8 1 64 (value_of (codes "queue") h.uses))
     seed jobs workers queue h.says
 
 -- ---- how many workers, and how long a queue
@@ -78,26 +80,28 @@ in_range_of words workers queue w q = record {
   room = within_or 8 1 64 (value_of (codes "queue") words) queue (omega arith) (omega arith) q;
 }
 
-run_given : (m j : Option Text) (w q : Option ℕ) (workers queue : ℕ) → order_from m j w q ≡ Some (Run workers queue) → (w ≡ Some workers) × (q ≡ Some queue)
-run_given None None (Some a) (Some b) workers queue e = (cc, cc)
-run_given None None (Some a) None workers queue e = absurd cc
-run_given None None None q workers queue e = absurd cc
-run_given None (Some j) w q workers queue e = absurd cc
-run_given (Some m) None w q workers queue e = absurd cc
-run_given (Some m) (Some j) w q workers queue e = absurd (makes_no_run (number_in 0 4294967295 m) (number_in 1 2000 j) w q workers queue e)
+run_given : (m j : Option Text) (k : Bool) (w q : Option ℕ) (workers queue : ℕ) (accounts : Bool) → order_from m j k w q ≡ Some (Run workers queue accounts) → (w ≡ Some workers) × (q ≡ Some queue)
+run_given None None k (Some a) (Some b) workers queue accounts e = (cc, cc)
+run_given None None k (Some a) None workers queue accounts e = absurd cc
+run_given None None k None q workers queue accounts e = absurd cc
+run_given None (Some j) k w q workers queue accounts e = absurd cc
+run_given (Some m) None k w q workers queue accounts e = absurd cc
+run_given (Some m) (Some j) true w q workers queue accounts e = absurd cc
+run_given (Some m) (Some j) false w q workers queue accounts e = absurd (makes_no_run (number_in 0 4294967295 m) (number_in 1 2000 j) w q e)
   where
-    makes_no_run : (s n w q : Option ℕ) (workers queue : ℕ) → make_from s n w q ≡ Some (Run workers queue) → ⊥
-    makes_no_run (Some a) (Some b) (Some c) (Some d) workers queue e = cc
-    makes_no_run (Some a) (Some b) (Some c) None workers queue e = cc
-    makes_no_run (Some a) (Some b) None q workers queue e = cc
-    makes_no_run (Some a) None w q workers queue e = cc
-    makes_no_run None n w q workers queue e = cc
+    makes_no_run : (s n w q : Option ℕ) → make_from s n w q ≡ Some (Run workers queue accounts) → ⊥
+    makes_no_run (Some a) (Some b) (Some c) (Some d) e = cc
+    makes_no_run (Some a) (Some b) (Some c) None e = cc
+    makes_no_run (Some a) (Some b) None q e = cc
+    makes_no_run (Some a) None w q e = cc
+    makes_no_run None n w q e = cc
 
-make_given : (m j : Option Text) (w q : Option ℕ) (seed jobs workers queue : ℕ) → order_from m j w q ≡ Some (Make seed jobs workers queue) → (w ≡ Some workers) × (q ≡ Some queue)
-make_given None None w q seed jobs workers queue e = absurd (run_makes_none w q seed jobs workers queue e)
-make_given None (Some j) w q seed jobs workers queue e = absurd cc
-make_given (Some m) None w q seed jobs workers queue e = absurd cc
-make_given (Some m) (Some j) w q seed jobs workers queue e = given (number_in 0 4294967295 m) (number_in 1 2000 j) w q e
+make_given : (m j : Option Text) (k : Bool) (w q : Option ℕ) (seed jobs workers queue : ℕ) → order_from m j k w q ≡ Some (Make seed jobs workers queue) → (w ≡ Some workers) × (q ≡ Some queue)
+make_given None None k w q seed jobs workers queue e = absurd (run_makes_none k w q seed jobs workers queue e)
+make_given None (Some j) k w q seed jobs workers queue e = absurd cc
+make_given (Some m) None k w q seed jobs workers queue e = absurd cc
+make_given (Some m) (Some j) true w q seed jobs workers queue e = absurd cc
+make_given (Some m) (Some j) false w q seed jobs workers queue e = given (number_in 0 4294967295 m) (number_in 1 2000 j) w q e
   where
     given : (s n w q : Option ℕ) → make_from s n w q ≡ Some (Make seed jobs workers queue) → (w ≡ Some workers) × (q ≡ Some queue)
     given (Some a) (Some b) (Some c) (Some d) e = (cc, cc)
@@ -106,14 +110,14 @@ make_given (Some m) (Some j) w q seed jobs workers queue e = given (number_in 0 
     given (Some a) None w q e = absurd cc
     given None n w q e = absurd cc
 
-pub run_in_range : (words : List Text) (workers queue : ℕ) → IsOrder words (Run workers queue) → InRange workers queue
-run_in_range words workers queue h =
-    let given = run_given (value_of (codes "make") h.uses) (value_of (codes "jobs") h.uses) (number_or 4 1 16 (value_of (codes "workers") h.uses)) (number_or 8 1 64 (value_of (codes "queue") h.uses)) workers queue h.says in
+pub run_in_range : (words : List Text) (workers queue : ℕ) (accounts : Bool) → IsOrder words (Run workers queue accounts) → InRange workers queue
+run_in_range words workers queue accounts h =
+    let given = run_given (value_of (codes "make") h.uses) (value_of (codes "jobs") h.uses) (has_flag (codes "accounts") h.uses) (number_or 4 1 16 (value_of (codes "workers") h.uses)) (number_or 8 1 64 (value_of (codes "queue") h.uses)) workers queue accounts h.says in
     in_range_of h.uses workers queue given.0 given.1
 
 pub make_in_range : (words : List Text) (seed jobs workers queue : ℕ) → IsOrder words (Make seed jobs workers queue) → InRange workers queue
 make_in_range words seed jobs workers queue h =
-    let given = make_given (value_of (codes "make") h.uses) (value_of (codes "jobs") h.uses) (number_or 4 1 16 (value_of (codes "workers") h.uses)) (number_or 8 1 64 (value_of (codes "queue") h.uses)) seed jobs workers queue h.says in
+    let given = make_given (value_of (codes "make") h.uses) (value_of (codes "jobs") h.uses) (has_flag (codes "accounts") h.uses) (number_or 4 1 16 (value_of (codes "workers") h.uses)) (number_or 8 1 64 (value_of (codes "queue") h.uses)) seed jobs workers queue h.says in
     in_range_of h.uses workers queue given.0 given.1
 
 -- ---- words say one order
@@ -121,11 +125,25 @@ make_in_range words seed jobs workers queue h =
 one_order : (words : List Text) (one two : Order) → IsOrder words one → IsOrder words two → one ≡ two
 one_order words one two h k = ap (λ (o : Option Order). unwrap_or o one) (sym (order_is_given words one h) ∙ order_is_given words two k)
 
-pub not_run : (words : List Text) (seed jobs workers queue : ℕ) → IsOrder words (Make seed jobs workers queue) → SaysRun words → ⊥
-not_run words seed jobs workers queue h says = let e = one_order words (Make seed jobs workers queue) (Run says.workers says.queue) h says.order in cc
+pub not_run : (words : List Text) (seed jobs workers queue : ℕ) (asked : Asked) → IsOrder words (Make seed jobs workers queue) → SaysRun words asked → ⊥
+not_run words seed jobs workers queue asked h says = let e = one_order words (Make seed jobs workers queue) (Run says.workers says.queue asked.accounts) h says.order in cc
 
-pub not_made : (words : List Text) (workers queue seed jobs : ℕ) → IsOrder words (Run workers queue) → SaysMake words seed jobs → ⊥
-not_made words workers queue seed jobs h says = let e = one_order words (Run workers queue) (Make seed jobs says.workers says.queue) h says.order in cc
+pub not_made : (words : List Text) (workers queue : ℕ) (accounts : Bool) (seed jobs : ℕ) → IsOrder words (Run workers queue accounts) → SaysMake words seed jobs → ⊥
+not_made words workers queue accounts seed jobs h says = let e = one_order words (Run workers queue accounts) (Make seed jobs says.workers says.queue) h says.order in cc
+
+accounts_in : Bool → Order → Bool
+accounts_in b (Run workers queue accounts) = accounts
+accounts_in b (Make seed jobs workers queue) = b
+
+-- what a run was asked for is what the words say
+pub same_asked : (words : List Text) (workers queue : ℕ) (accounts : Bool) (asked : Asked) → IsOrder words (Run workers queue accounts) → SaysRun words asked → record { accounts = accounts } ≡ asked
+unfolding accounts_in
+same_asked words workers queue accounts asked h says =
+    let e : accounts ≡ asked.accounts = ap (accounts_in accounts) (one_order words (Run workers queue accounts) (Run says.workers says.queue asked.accounts) h says.order) in
+    λ i. record { accounts = e i }
+
+pub says_run : (words : List Text) (workers queue : ℕ) (accounts : Bool) → IsOrder words (Run workers queue accounts) → SaysRun words (record { accounts = accounts })
+says_run words workers queue accounts h = record { workers = workers; queue = queue; order = h }
 
 pub same_made : (words : List Text) (seed jobs workers queue s j : ℕ) → IsOrder words (Make seed jobs workers queue) → SaysMake words s j → (seed ≡ s) × (jobs ≡ j)
 same_made words seed jobs workers queue s j h says =
@@ -134,3 +152,13 @@ same_made words seed jobs workers queue s j h says =
 
 pub said_as : {words : List Text} {one two : Order} → one ≡ two → IsOrder words one → IsOrder words two
 said_as {words} e h = subst (λ (o : Order). IsOrder words o) e h
+
+-- an accounts file that a run was asked for is asked for by the words
+pub accounts_said : {P : Type 0} (words : List Text) (workers queue : ℕ) (accounts : Bool) → IsOrder words (Run workers queue accounts) → (accounts ≡ true) × P → SaysAccounts words × P
+accounts_said words workers queue accounts h known = (record { asked = record { accounts = accounts }; run = says_run words workers queue accounts h; accounts = known.0 }, known.1)
+
+pub or_said : {A P : Type 0} (words : List Text) (workers queue : ℕ) (accounts : Bool) → IsOrder words (Run workers queue accounts) → A ⊎ ((accounts ≡ true) × P) → A ⊎ (SaysAccounts words × P)
+or_said words workers queue accounts h known = elim known [
+  | inl a ↦ inl a
+  | inr b ↦ inr (accounts_said words workers queue accounts h b)
+]

@@ -1,4 +1,8 @@
+pub mod Accounts
+pub mod Asked
+pub mod Closing
 pub mod Made
 pub mod Orders
 pub mod Outcome
+pub mod Reading
 pub mod Status

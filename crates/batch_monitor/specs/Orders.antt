@@ -1,18 +1,25 @@
 -- What the command words say.
-use Rattle.std.specs.Prelude.{ℕ, List}
+use Rattle.std.specs.Prelude.{ℕ, ◌≡◌, List, true}
 use Rattle.command_words.specs.declared.order.Order.{Order}
 use Rattle.command_words.specs.declared.order.Order.TheVariants.{Run, Make}
 use Rattle.command_words.specs.Form.{IsOrder, Text}
+use Rattle.batch_monitor.specs.declared.asked.Asked.{Asked}
 
 -- they say no order
 abbrev pub SaysNothing : List Text → Type 0
 SaysNothing words = (order : Order) → IsOrder words order → ⊥
 
--- they say that a batch is to be read and run
-pub record SaysRun (words : List Text) : Type 0 where
+-- they say that a batch is to be read and run, and what is asked for
+pub record SaysRun (words : List Text) (asked : Asked) : Type 0 where
   pub workers : ℕ
   pub queue : ℕ
-  pub order : IsOrder words (Run workers queue)
+  pub order : IsOrder words (Run workers queue asked.accounts)
+
+-- they say so, and ask for an accounts file
+pub record SaysAccounts (words : List Text) : Type 0 where
+  pub asked : Asked
+  pub run : SaysRun words asked
+  pub accounts : asked.accounts ≡ true
 
 -- they say that a batch of so many jobs is to be made from a seed, and run
 pub record SaysMake (words : List Text) (seed jobs : ℕ) : Type 0 where

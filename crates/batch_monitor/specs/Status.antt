@@ -2,6 +2,8 @@
 use Rattle.std.specs.Prelude.{ℕ, Result, Ok, Err}
 use Rattle.batch_intake.specs.declared.halt.Halt.{Halt}
 use Rattle.batch_intake.specs.declared.halt.Halt.TheVariants as halt
+use Rattle.batch_monitor.specs.declared.accounts.Unread.{Unread}
+use Rattle.batch_monitor.specs.declared.accounts.Unread.TheVariants as unread
 use Rattle.batch_monitor.specs.declared.top.Status.{Status}
 use Rattle.batch_monitor.specs.declared.top.Status.TheVariants as status
 
@@ -10,6 +12,12 @@ status_of halt.NoMemory = status.NoMemory
 status_of halt.ReadFault = status.ReadFault
 status_of halt.WriteFault = status.WriteFault
 status_of halt.TooLarge = status.TooLarge
+
+-- how a run ended that has no accounts
+abbrev pub status_unread : Unread → Status
+status_unread unread.NoMemory = status.NoMemory
+status_unread unread.ReadFault = status.ReadFault
+status_unread unread.BadAccounts = status.BadAccounts
 
 -- how a run ended
 abbrev pub status_after : {T : Type 0} → Result T Halt → Status
@@ -24,3 +32,4 @@ number_of status.NoMemory = 3
 number_of status.ReadFault = 4
 number_of status.WriteFault = 5
 number_of status.TooLarge = 6
+number_of status.BadAccounts = 7

@@ -1,7 +1,12 @@
-//! The top call: what the command words say is done, over any source of bytes and any sink.
+//! The top call: what the command words say is done, over any sources of bytes and any sinks.
 #![tactic(auto)]
 
+mod accounts;
+mod asked;
+mod laws;
 mod made;
+mod run;
 mod top;
 
+pub use laws::closed_are_accounts;
 pub use top::{Status, run_monitor};

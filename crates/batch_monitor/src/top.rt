@@ -1,17 +1,21 @@
 ghost use Rattle.std.specs.Prelude.{◌≡◌, ◌⊎◌, ℕ, IfSome, false, map, string_bytes, true};
 ghost use Rattle.batch_io.specs.Causes.{Rose};
 ghost use Rattle.deck_reader.specs.Batch.{too_large};
-ghost use Rattle.batch_monitor.specs.Orders.{SaysMake, SaysNothing, SaysRun};
-ghost use Rattle.batch_runner.specs.Outcome.{IsDone, IsCutShort};
 ghost use Rattle.batch_intake.specs.Halts.{IsTooLarge};
-ghost use Rattle.batch_monitor.specs.Outcome.{IsMade};
+ghost use Rattle.batch_monitor.specs.declared.asked.Asked.{Asked};
+ghost use Rattle.batch_monitor.specs.Accounts.{IsBadText, StatesNone, StatesSome};
+ghost use Rattle.batch_monitor.specs.Orders.{SaysAccounts, SaysMake, SaysNothing, SaysRun};
+ghost use Rattle.batch_monitor.specs.Outcome.{IsCut, IsCutInBalances, IsDone, IsMade, NoneRose};
 ghost use Rattle.batch_monitor.specs.Status.{number_of, status_after};
 
+use crate::accounts::Unread;
+use crate::asked::Asked;
 use crate::made::run_made;
+use crate::run::run_batch;
 use batch_io::{Gate, Sink, Source};
-use batch_runner::{Halt, Staff, write_listing};
+use batch_runner::{Halt, Staff};
 use command_words::{Order, WordsError, read_words};
-use std::alloc::Global;
+use std::alloc::{AllocError, Global};
 use std::sync::Wait;
 use std::thread::Threads;
 
@@ -30,6 +34,8 @@ pub enum Status {
     WriteFault,
     /// The batch is too large.
     TooLarge,
+    /// The accounts file states no accounts. Nothing was written, and of the batch nothing was read.
+    BadAccounts,
 }
 
 impl Status {
@@ -44,6 +50,7 @@ impl Status {
             Status::ReadFault => 4,
             Status::WriteFault => 5,
             Status::TooLarge => 6,
+            Status::BadAccounts => 7,
         }
     }
 }
@@ -64,56 +71,121 @@ impl From<Halt> for Status {
     }
 }
 
+impl From<Unread> for Status {
+    ghost use Rattle.std.specs.Prelude.{◌≡◌};
+    ghost use Rattle.batch_monitor.specs.Status.{status_unread};
+
+    ghost from_gives = { λ unread status. status ≡ status_unread unread };
+
+    fn from(unread: Unread) -> Status {
+        match unread {
+            Unread::NoMemory => Status::NoMemory,
+            Unread::ReadFault => Status::ReadFault,
+            Unread::BadAccounts => Status::BadAccounts,
+        }
+    }
+}
+
 /// Does what the command words say: reads a batch, runs its jobs and writes the listing; or makes a batch, runs its jobs
-/// and writes the summary of its listing. So many workers run the jobs as the words say, in threads of their own but for one,
+/// and writes the summary of its listing. With `--accounts` the opening balances of a batch that is read are those that an
+/// accounts file states, which is read first, and behind the listing a text is written that states the closing balances, which
+/// may be the next batch's opening ones. So many workers run the jobs as the words say, in threads of their own but for one,
 /// and as many accepted jobs as they say may wait for them: no byte depends on these numbers, nor on what the workers do when.
-pub fn run_monitor<R: Threads + Wait + Sync, S: Source, K: Sink, G: Gate>(
+pub fn run_monitor<R: Threads + Wait + Sync, S: Source, K: Sink, A: Source, B: Sink, G: Gate>(
     rt: &R,
     alloc: Global,
     words: &[String],
     src: &mut S,
     sink: &mut K,
+    accounts_src: &mut A,
+    accounts_sink: &mut B,
     gate: &G,
 ) -> Status
     // Words that say nothing are refused, and no others are; then nothing is read or written.
     ensures bad { result ≡ Status.BadWords → SaysNothing (map string_bytes words.now) }
     ensures words { SaysNothing (map string_bytes words.now)
         → (result ≡ Status.BadWords) ⊎ (result ≡ Status.NoMemory) }
-    ensures untouched { SaysNothing (map string_bytes words.now) → (src.new ≡ src.old) × (sink.new ≡ sink.old) }
+    ensures untouched { SaysNothing (map string_bytes words.now) → (src.new ≡ src.old) × (sink.new ≡ sink.old)
+        × (accounts_src.new ≡ accounts_src.old) × (accounts_sink.new ≡ accounts_sink.old) }
 
-    // What was written is the listing of the batch, or on any other answer a prefix of the listing of what was read.
-    ensures done { SaysRun (map string_bytes words.now) → result ≡ Status.Done
-        → IsDone (S.left src.old) (S.left src.new) (K.written sink.old) (K.written sink.new) }
-    ensures cut { SaysRun (map string_bytes words.now) → (result ≡ Status.Done → ⊥)
-        → IsCutShort (S.left src.old) (S.left src.new) (K.written sink.old) (K.written sink.new) }
+    // What was written is the listing of the batch with its accounts, and behind it the closing balances where they are asked for.
+    ensures done { (asked : Asked) → SaysRun (map string_bytes words.now) asked → result ≡ Status.Done
+        → IsDone asked (S.left src.old) (S.left src.new) (K.written sink.old) (K.written sink.new)
+        (A.left accounts_src.old) (A.left accounts_src.new) (B.written accounts_sink.old) (B.written accounts_sink.new) }
+
+    // On any other answer it is a prefix of the listing of what was read; or of the batch nothing was read, and nothing was written.
+    ensures cut { (asked : Asked) → SaysRun (map string_bytes words.now) asked → (result ≡ Status.Done → ⊥)
+        → IsCut asked (S.left src.old) (S.left src.new) (K.written sink.old) (K.written sink.new) (A.left accounts_src.old) (A.left accounts_src.new)
+        ⊎ ((asked.accounts ≡ true) × (src.new ≡ src.old) × (sink.new ≡ sink.old)) }
+
+    // Then no closing balances were written, or a prefix of them where a write failed.
+    ensures balances { (asked : Asked) → SaysRun (map string_bytes words.now) asked → (result ≡ Status.Done → ⊥)
+        → (accounts_sink.new ≡ accounts_sink.old) ⊎ ((result ≡ Status.WriteFault)
+        × IsCutInBalances asked (S.left src.old) (S.left src.new) (K.written sink.old) (K.written sink.new)
+        (A.left accounts_src.old) (A.left accounts_src.new) (B.written accounts_sink.old) (B.written accounts_sink.new)) }
+
+    // Without an accounts file neither of its ends is touched.
+    ensures alone { (asked : Asked) → SaysRun (map string_bytes words.now) asked → asked.accounts ≡ false
+        → (accounts_src.new ≡ accounts_src.old) × (accounts_sink.new ≡ accounts_sink.old) }
 
     // Each answer has its cause, and no fault is passed over.
     ensures kept { result ≡ Status.Done
-        → (S.faults src.new ≡ S.faults src.old) × (K.faults sink.new ≡ K.faults sink.old) }
-    ensures read { result ≡ Status.ReadFault → Rose (S.faults src.old) (S.faults src.new) }
-    ensures write { result ≡ Status.WriteFault → Rose (K.faults sink.old) (K.faults sink.new) }
+        → (S.faults src.new ≡ S.faults src.old) × (K.faults sink.new ≡ K.faults sink.old)
+        × (A.faults accounts_src.new ≡ A.faults accounts_src.old) × (B.faults accounts_sink.new ≡ B.faults accounts_sink.old) }
+    ensures read { result ≡ Status.ReadFault → Rose (S.faults src.old) (S.faults src.new)
+        ⊎ (SaysAccounts (map string_bytes words.now) × Rose (A.faults accounts_src.old) (A.faults accounts_src.new)) }
+    ensures write { result ≡ Status.WriteFault → Rose (K.faults sink.old) (K.faults sink.new)
+        ⊎ (SaysAccounts (map string_bytes words.now) × Rose (B.faults accounts_sink.old) (B.faults accounts_sink.new)) }
     ensures large { result ≡ Status.TooLarge → IsTooLarge (S.left src.old) (S.left src.new) }
 
-    // A batch that fits is run to the end, and one that doesn't is refused, unless a read, a write or memory fails.
-    ensures complete { SaysRun (map string_bytes words.now) → IfSome (S.left src.old) (λ b. too_large b ≡ false
-        → (Rose (S.faults src.old) (S.faults src.new) → ⊥)
-        → (Rose (K.faults sink.old) (K.faults sink.new) → ⊥)
-        → (result ≡ Status.Done) ⊎ (result ≡ Status.NoMemory)) }
-    ensures refused { SaysRun (map string_bytes words.now) → IfSome (S.left src.old) (λ b. too_large b ≡ true
-        → (Rose (S.faults src.old) (S.faults src.new) → ⊥)
-        → (Rose (K.faults sink.old) (K.faults sink.new) → ⊥)
-        → (result ≡ Status.TooLarge) ⊎ (result ≡ Status.NoMemory)) }
+    // Accounts are bad only where the file's text states none; then the batch isn't read, and nothing is written.
+    ensures accounts { result ≡ Status.BadAccounts
+        → SaysAccounts (map string_bytes words.now) × IsBadText (A.left accounts_src.old) (A.left accounts_src.new) }
+    ensures unread { result ≡ Status.BadAccounts
+        → (src.new ≡ src.old) × (sink.new ≡ sink.old) × (accounts_sink.new ≡ accounts_sink.old) }
 
-    // A batch that is made leaves the source as it was. What was written is the summary of the batch's listing, or a
-    // prefix of it where memory was wanting or a write failed.
+    // A text that states no accounts is refused, whatever the batch is; a batch that fits is run to the end, and one that
+    // doesn't is refused, unless a read, a write or memory fails.
+    ensures refused_accounts { SaysAccounts (map string_bytes words.now)
+        → IfSome (A.left accounts_src.old) (λ text. StatesNone text
+        → (Rose (A.faults accounts_src.old) (A.faults accounts_src.new) → ⊥)
+        → (result ≡ Status.BadAccounts) ⊎ (result ≡ Status.NoMemory)) }
+    ensures complete { (asked : Asked) → SaysRun (map string_bytes words.now) asked → StatesSome asked.accounts (A.left accounts_src.old)
+        → NoneRose asked (S.faults src.old) (S.faults src.new) (K.faults sink.old) (K.faults sink.new)
+        (A.faults accounts_src.old) (A.faults accounts_src.new) (B.faults accounts_sink.old) (B.faults accounts_sink.new)
+        → IfSome (S.left src.old) (λ b. too_large b ≡ false → (result ≡ Status.Done) ⊎ (result ≡ Status.NoMemory)) }
+    ensures refused { (asked : Asked) → SaysRun (map string_bytes words.now) asked → StatesSome asked.accounts (A.left accounts_src.old)
+        → NoneRose asked (S.faults src.old) (S.faults src.new) (K.faults sink.old) (K.faults sink.new)
+        (A.faults accounts_src.old) (A.faults accounts_src.new) (B.faults accounts_sink.old) (B.faults accounts_sink.new)
+        → IfSome (S.left src.old) (λ b. too_large b ≡ true → (result ≡ Status.TooLarge) ⊎ (result ≡ Status.NoMemory)) }
+
+    // A batch that is made leaves both sources as they were, and the accounts' sink. What was written is the summary of the
+    // batch's listing, or a prefix of it where memory was wanting or a write failed.
     ensures made { (seed jobs : ℕ) → SaysMake (map string_bytes words.now) seed jobs
-        → IsMade seed jobs (K.written sink.old) (K.written sink.new) result × (src.new ≡ src.old) }
+        → IsMade seed jobs (K.written sink.old) (K.written sink.new) result
+        × (src.new ≡ src.old) × (accounts_src.new ≡ accounts_src.old) × (accounts_sink.new ≡ accounts_sink.old) }
 {
     match read_words(alloc, words) {
-        Ok(Order::Run { workers, queue }) => {
-            let staff = Staff::new(workers, queue);
-            status_after(write_listing(rt, alloc, src, sink, staff, gate))
-        }
+        Ok(
+            Order::Run {
+                workers,
+                queue,
+                accounts,
+            },
+        ) => match Staff::new(alloc, workers, queue) {
+            Ok(staff) => run_batch(
+                rt,
+                alloc,
+                Asked { accounts },
+                src,
+                sink,
+                accounts_src,
+                accounts_sink,
+                staff,
+                gate,
+            ),
+            Err(AllocError) => Status::NoMemory,
+        },
         Ok(
             Order::Make {
                 seed,
@@ -121,17 +193,17 @@ pub fn run_monitor<R: Threads + Wait + Sync, S: Source, K: Sink, G: Gate>(
                 workers,
                 queue,
             },
-        ) => {
-            let staff = Staff::new(workers, queue);
-            status_after(run_made(rt, alloc, sink, seed, jobs, staff, gate))
-        }
+        ) => match Staff::new(alloc, workers, queue) {
+            Ok(staff) => status_after(run_made(rt, alloc, sink, seed, jobs, staff, gate)),
+            Err(AllocError) => Status::NoMemory,
+        },
         Err(WordsError::BadWords) => Status::BadWords,
         Err(WordsError::NoMemory) => Status::NoMemory,
     }
 }
 
 /// How a run ended that ended so.
-fn status_after(ended: Result<(), Halt>) -> Status
+pub(crate) fn status_after(ended: Result<(), Halt>) -> Status
     ensures { result ≡ status_after ended }
 {
     match ended {

@@ -7,12 +7,12 @@ use Rattle.deck_reader.specs.declared.batch.Account.{Account}
 use Rattle.deck_reader.specs.declared.batch.Batch.{Batch}
 use Rattle.deck_reader.specs.declared.reader.Reader.{Reader}
 use Rattle.deck_reader.specs.JobView.{JobView}
-use Rattle.deck_reader.specs.Batch.{batch, passes, too_large}
+use Rattle.deck_reader.specs.Batch.{batch_with, passes, too_large}
 use Rattle.deck_reader.proofs.Staying.{accounts_stay, jobs_stay, taken_and_kept}
 use Rattle.account_book.specs.BookView.{openings_of}
 use Rattle.batch_listing.specs.declared.audit.Audit.{Audit}
 use Rattle.batch_listing.specs.Behind.{IsBehind}
-use Rattle.batch_listing.specs.Listing.{closing_lines, listing, section, sections}
+use Rattle.batch_listing.specs.Listing.{closing_lines, listing_with, section, sections}
 use Rattle.batch_listing.specs.Tallies.{sections_tally}
 use Rattle.batch_listing.specs.Texts.{heading, closing}
 use Rattle.batch_listing.specs.Writing.{AppendsPrefix, WroteUpTo}
@@ -49,32 +49,32 @@ sections_more openings xs x = sections_split openings xs (x ∷ []) ∙ ap (λ (
 -- ---- what was read tells of the whole
 
 -- the jobs by now are the first ones of any whole, and the accounts are those of it
-record IsFront (accounts : List Account) (jobs : List JobView) (whole : List ℕ) : Type 0 where
+record IsFront (given : Option (List Account)) (accounts : List Account) (jobs : List JobView) (whole : List ℕ) : Type 0 where
   rest : List JobView
-  jobs_are : (batch whole).jobs ≡ jobs ++ rest
-  accounts_are : (batch whole).accounts ≡ accounts
+  jobs_are : (batch_with given whole).jobs ≡ jobs ++ rest
+  accounts_are : (batch_with given whole).accounts ≡ accounts
 
-front_of : (reader : Option Reader) (left : Option (List ℕ)) (accounts : List Account) (jobs : List JobView) (stray : ℕ) (input more whole : List ℕ) → whole ≡ input ++ more → ((reader ≡ None → ⊥) ⊎ (more ≡ []))
-    → Knows reader left accounts jobs stray input → IsFront accounts jobs whole
-front_of (Some reader) left accounts jobs stray input more whole is going knows =
-    let longer = jobs_stay input more in
+front_of : (given : Option (List Account)) (reader : Option Reader) (left : Option (List ℕ)) (accounts : List Account) (jobs : List JobView) (stray : ℕ) (input more whole : List ℕ) → whole ≡ input ++ more → ((reader ≡ None → ⊥) ⊎ (more ≡ []))
+    → Knows given reader left accounts jobs stray input → IsFront given accounts jobs whole
+front_of given (Some reader) left accounts jobs stray input more whole is going knows =
+    let longer = jobs_stay given input more in
     let kept : List JobView = reader.reading.jobs in
     record {
       rest = kept ++ longer.0;
       jobs_are =
-          ap (λ (bytes : List ℕ). (batch bytes).jobs) is
+          ap (λ (bytes : List ℕ). (batch_with given bytes).jobs) is
           ∙ longer.1
-          ∙ ap (λ (js : List JobView). js ++ longer.0) (sym (taken_and_kept reader jobs input knows.0))
+          ∙ ap (λ (js : List JobView). js ++ longer.0) (sym (taken_and_kept given reader jobs input knows.0))
           ∙ append_assoc jobs kept longer.0;
-      accounts_are = ap (λ (bytes : List ℕ). (batch bytes).accounts) is ∙ accounts_stay input more accounts knows.1;
+      accounts_are = ap (λ (bytes : List ℕ). (batch_with given bytes).accounts) is ∙ accounts_stay given input more accounts knows.1;
     }
-front_of None left accounts jobs stray input more whole is (inl going) knows = absurd (going refl)
-front_of None left accounts jobs stray input more whole is (inr none) knows =
+front_of given None left accounts jobs stray input more whole is (inl going) knows = absurd (going refl)
+front_of given None left accounts jobs stray input more whole is (inr none) knows =
     let same : whole ≡ input = is ∙ ap (λ (bytes : List ℕ). input ++ bytes) none ∙ append-nil input in
     record {
       rest = [];
-      jobs_are = ap (λ (bytes : List ℕ). (batch bytes).jobs) same ∙ ap (λ (b : Batch). b.jobs) knows.2 ∙ sym (append-nil jobs);
-      accounts_are = ap (λ (bytes : List ℕ). (batch bytes).accounts) same ∙ ap (λ (b : Batch). b.accounts) knows.2;
+      jobs_are = ap (λ (bytes : List ℕ). (batch_with given bytes).jobs) same ∙ ap (λ (b : Batch). b.jobs) knows.2 ∙ sym (append-nil jobs);
+      accounts_are = ap (λ (bytes : List ℕ). (batch_with given bytes).accounts) same ∙ ap (λ (b : Batch). b.accounts) knows.2;
     }
 
 -- the closing lines of a batch
@@ -82,12 +82,12 @@ abbrev pub closing_of : Batch → List ℕ
 closing_of b = closing (closing_lines (openings_of b.accounts) b.jobs b.accounts) b.stray
 
 -- behind the sections of the first jobs stand those of the others, and the closing lines
-left_behind : (accounts : List Account) (jobs done others : List JobView) (whole : List ℕ) (front : IsFront accounts jobs whole) → jobs ≡ done ++ others
-    → (heading ++ sections (openings_of accounts) done) ++ (sections_behind (openings_of accounts) done (others ++ front.rest) ++ closing_of (batch whole)) ≡ listing whole
-left_behind accounts jobs done others whole front is =
+left_behind : (given : Option (List Account)) (accounts : List Account) (jobs done others : List JobView) (whole : List ℕ) (front : IsFront given accounts jobs whole) → jobs ≡ done ++ others
+    → (heading ++ sections (openings_of accounts) done) ++ (sections_behind (openings_of accounts) done (others ++ front.rest) ++ closing_of (batch_with given whole)) ≡ listing_with given whole
+left_behind given accounts jobs done others whole front is =
     let o = openings_of accounts in
     let behind = sections_behind o done (others ++ front.rest) in
-    let b = batch whole in
+    let b = batch_with given whole in
     let all : b.jobs ≡ done ++ (others ++ front.rest) = front.jobs_are ∙ ap (λ (js : List JobView). js ++ front.rest) is ∙ append_assoc done others front.rest in
     sym (append_assoc (heading ++ sections o done) behind (closing_of b))
     ∙ ap (λ (text : List ℕ). text ++ closing_of b)
@@ -96,27 +96,27 @@ left_behind accounts jobs done others whole front is =
     (sym (sections_split o done (others ++ front.rest)) ∙ ap (sections o) (sym all) ∙ ap (λ (xs : List Account). sections (openings_of xs) b.jobs) (sym front.accounts_are)))
 
 -- what is left to write of the listing of what was read, and of more
-still_left : (start : Outside) (p : Progress) (h : HasWritten start p) (done others : List JobView) (whole : List ℕ) (front : IsFront p.audit.book.accounts (jobs_by p.intake) whole)
+still_left : (given : Option (List Account)) (start : Outside) (p : Progress) (h : HasWritten given start p) (done others : List JobView) (whole : List ℕ) (front : IsFront given p.audit.book.accounts (jobs_by p.intake) whole)
     → take p.written (jobs_by p.intake) ≡ done → drop p.written (jobs_by p.intake) ≡ others
-    → WroteUpTo start.written p.outside.written (listing whole) (sections_behind (openings p) done (others ++ front.rest) ++ closing_of (batch whole))
-still_left start p h done others whole front taken dropped = record {
+    → WroteUpTo start.written p.outside.written (listing_with given whole) (sections_behind (openings p) done (others ++ front.rest) ++ closing_of (batch_with given whole))
+still_left given start p h done others whole front taken dropped = record {
   done = heading ++ sections (openings p) done;
   wrote = subst (λ (js : List JobView). Appends start.written p.outside.written (heading ++ sections (openings p) js)) taken h.wrote;
-  whole = left_behind p.audit.book.accounts (jobs_by p.intake) done others whole front
+  whole = left_behind given p.audit.book.accounts (jobs_by p.intake) done others whole front
       (sym (take-append-drop p.written (jobs_by p.intake)) ∙ ap (λ (js : List JobView). js ++ drop p.written (jobs_by p.intake)) taken ∙ ap (λ (js : List JobView). done ++ js) dropped);
 }
 
 -- the front of what was read, and of more
-abbrev more_read : (p : Progress) (input more : List ℕ) → Type 0
-more_read p input more = IsFront p.audit.book.accounts (jobs_by p.intake) (input ++ more)
+abbrev more_read : (given : Option (List Account)) (p : Progress) (input more : List ℕ) → Type 0
+more_read given p input more = IsFront given p.audit.book.accounts (jobs_by p.intake) (input ++ more)
 
-front_as_read : (start : Outside) (p : Progress) (h : HasWritten start p) → IsFront p.audit.book.accounts (jobs_by p.intake) h.input
-front_as_read start p h = front_of p.intake.reader p.outside.left p.audit.book.accounts (jobs_by p.intake) p.intake.stray h.input [] h.input (sym (append-nil h.input)) (inr refl) h.known
+front_as_read : (given : Option (List Account)) (start : Outside) (p : Progress) (h : HasWritten given start p) → IsFront given p.audit.book.accounts (jobs_by p.intake) h.input
+front_as_read given start p h = front_of given p.intake.reader p.outside.left p.audit.book.accounts (jobs_by p.intake) p.intake.stray h.input [] h.input (sym (append-nil h.input)) (inr refl) h.known
 
 -- what was written is a prefix of the listing of what was read, and of more
-prefix_so : (start : Outside) (p : Progress) (h : HasWritten start p) (whole : List ℕ) → IsFront p.audit.book.accounts (jobs_by p.intake) whole → AppendsPrefix start.written p.outside.written (listing whole)
-prefix_so start p h whole front =
-    prefix_written start.written p.outside.written (listing whole) _ (still_left start p h (take p.written (jobs_by p.intake)) (drop p.written (jobs_by p.intake)) whole front refl refl)
+prefix_so : (given : Option (List Account)) (start : Outside) (p : Progress) (h : HasWritten given start p) (whole : List ℕ) → IsFront given p.audit.book.accounts (jobs_by p.intake) whole → AppendsPrefix start.written p.outside.written (listing_with given whole)
+prefix_so given start p h whole front =
+    prefix_written start.written p.outside.written (listing_with given whole) _ (still_left given start p h (take p.written (jobs_by p.intake)) (drop p.written (jobs_by p.intake)) whole front refl refl)
 
 -- ---- where it halts
 
@@ -124,44 +124,44 @@ prefix_so start p h whole front =
 pub stops_anywhere : (p q : Progress) → p.halt ≡ None → q.halt ≡ Some NoMemory → q.outside ≡ p.outside → GoesOn p q
 stops_anywhere p q free halted same = record { stands = stands }
   where
-    halted_so : (start : Outside) → HasWritten start p → HasHalted start p.outside NoMemory
-    halted_so start h = record { cut = record { input = h.input; read = h.read; wrote = prefix_so start p h h.input (front_as_read start p h) }; cause = tt }
+    halted_so : (given : Option (List Account)) (start : Outside) → HasWritten given start p → HasHalted given start p.outside NoMemory
+    halted_so given start h = record { cut = record { input = h.input; read = h.read; wrote = prefix_so given start p h h.input (front_as_read given start p h) }; cause = tt }
 
-    stands : (start : Outside) → StandsSince start p → StandsSince start q
-    stands start h = subst (Standing start q) (sym halted) (subst (λ (o : Outside). HasHalted start o NoMemory) (sym same) (halted_so start (subst (Standing start p) free h)))
+    stands : (given : Option (List Account)) (start : Outside) → StandsSince given start p → StandsSince given start q
+    stands given start h = subst (Standing given start q) (sym halted) (subst (λ (o : Outside). HasHalted given start o NoMemory) (sym same) (halted_so given start (subst (Standing given start p) free h)))
 
 -- reading may stop
 pub stops_reading : (p q : Progress) (halt : Halt) → p.halt ≡ None → q.halt ≡ Some halt → q.outside.written ≡ p.outside.written
     → StopsReading p.intake p.outside.left q.outside.left p.outside.read_faults q.outside.read_faults halt → GoesOn p q
 stops_reading p q halt free halted same stops = record { stands = stands }
   where
-    cause_since : (halt : Halt) (start : Outside) (h : HasWritten start p)
-        → StopCause halt p.outside.read_faults q.outside.read_faults ((accounts : List Account) (input : List ℕ) → HasRead p.intake p.outside.left accounts input → (passes (input ++ stops.piece) ≡ true) ⊎ (IsAtEnd q.outside.left × (too_large (input ++ stops.piece) ≡ true)))
+    cause_since : (given : Option (List Account)) (halt : Halt) (start : Outside) (h : HasWritten given start p)
+        → StopCause halt p.outside.read_faults q.outside.read_faults ((given : Option (List Account)) (accounts : List Account) (input : List ℕ) → HasRead given p.intake p.outside.left accounts input → (passes (input ++ stops.piece) ≡ true) ⊎ (IsAtEnd q.outside.left × (too_large (input ++ stops.piece) ≡ true)))
         → HasCause halt start q.outside
-    cause_since NoMemory start h cause = tt
-    cause_since ReadFault start h cause = subst (λ (n : ℕ). Rose n q.outside.read_faults) h.read_faults cause
-    cause_since WriteFault start h cause = absurd cause
-    cause_since TooLarge start h cause = record {
+    cause_since given NoMemory start h cause = tt
+    cause_since given ReadFault start h cause = subst (λ (n : ℕ). Rose n q.outside.read_faults) h.read_faults cause
+    cause_since given WriteFault start h cause = absurd cause
+    cause_since given TooLarge start h cause = record {
       input = h.input ++ stops.piece;
       read = Consumes-trans start.left p.outside.left q.outside.left h.input stops.piece h.read stops.read;
-      large = cause p.audit.book.accounts h.input h.known;
+      large = cause given p.audit.book.accounts h.input h.known;
     }
 
-    halted_so : (start : Outside) → HasWritten start p → HasHalted start q.outside halt
-    halted_so start h =
+    halted_so : (given : Option (List Account)) (start : Outside) → HasWritten given start p → HasHalted given start q.outside halt
+    halted_so given start h =
         let whole = h.input ++ stops.piece in
-        let front = front_of p.intake.reader p.outside.left p.audit.book.accounts (jobs_by p.intake) p.intake.stray h.input stops.piece whole refl (inl stops.going) h.known in
+        let front = front_of given p.intake.reader p.outside.left p.audit.book.accounts (jobs_by p.intake) p.intake.stray h.input stops.piece whole refl (inl stops.going) h.known in
         record {
           cut = record {
             input = whole;
             read = Consumes-trans start.left p.outside.left q.outside.left h.input stops.piece h.read stops.read;
-            wrote = subst (λ (w : Option (List ℕ)). AppendsPrefix start.written w (listing whole)) (sym same) (prefix_so start p h whole front);
+            wrote = subst (λ (w : Option (List ℕ)). AppendsPrefix start.written w (listing_with given whole)) (sym same) (prefix_so given start p h whole front);
           };
-          cause = cause_since halt start h stops.cause;
+          cause = cause_since given halt start h stops.cause;
         }
 
-    stands : (start : Outside) → StandsSince start p → StandsSince start q
-    stands start h = subst (Standing start q) (sym halted) (halted_so start (subst (Standing start p) free h))
+    stands : (given : Option (List Account)) (start : Outside) → StandsSince given start p → StandsSince given start q
+    stands given start h = subst (Standing given start q) (sym halted) (halted_so given start (subst (Standing given start p) free h))
 
 -- ---- where it is read on
 
@@ -180,8 +180,8 @@ reads_on p q free still audit count written faults reads = record { stands = sta
     accounts : q.audit.book.accounts ≡ p.audit.book.accounts
     accounts = ap (λ (a : Audit). a.book.accounts) audit
 
-    written_so : (start : Outside) → HasWritten start p → HasWritten start q
-    written_so start h =
+    written_so : (given : Option (List Account)) (start : Outside) → HasWritten given start p → HasWritten given start q
+    written_so given start h =
         let jobs = same_jobs h.few in
         let Behind : Audit → Type 0 = λ a. IsBehind a.book (take p.written (jobs_by p.intake)) in
         let Tallied : Audit → Type 0 = λ a. a.tally ≡ sections_tally (openings_of a.book.accounts) (take p.written (jobs_by p.intake)) in
@@ -189,7 +189,7 @@ reads_on p q free still audit count written faults reads = record { stands = sta
         record {
           input = h.input ++ reads.piece;
           read = Consumes-trans start.left p.outside.left q.outside.left h.input reads.piece h.read reads.read;
-          known = subst (λ (xs : List Account). HasRead q.intake q.outside.left xs (h.input ++ reads.piece)) (sym accounts) (reads.known p.audit.book.accounts h.input h.known);
+          known = subst (λ (xs : List Account). HasRead given q.intake q.outside.left xs (h.input ++ reads.piece)) (sym accounts) (reads.known given p.audit.book.accounts h.input h.known);
           few = omega (arith, h.few, count, ap length reads.more.1, length-append (jobs_by p.intake) reads.more.0);
           behind = subst (IsBehind q.audit.book) (sym jobs) (subst Behind (sym audit) h.behind);
           tally = subst (λ (js : List JobView). q.audit.tally ≡ sections_tally (openings q) js) (sym jobs) (subst Tallied (sym audit) h.tally);
@@ -199,8 +199,8 @@ reads_on p q free still audit count written faults reads = record { stands = sta
           write_faults = faults ∙ h.write_faults;
         }
 
-    stands : (start : Outside) → StandsSince start p → StandsSince start q
-    stands start h = subst (Standing start q) (sym still) (written_so start (subst (Standing start p) free h))
+    stands : (given : Option (List Account)) (start : Outside) → StandsSince given start p → StandsSince given start q
+    stands given start h = subst (Standing given start q) (sym still) (written_so given start (subst (Standing given start p) free h))
 
 -- ---- the next section
 
@@ -262,13 +262,13 @@ writes_next p q job rest piece next made = record { stands = stands }
         ∙ ap (λ (js : List JobView). take (suc p.written) js) same_jobs
         ∙ take_next (jobs_by p.intake) p.written job rest next.left
 
-    known_so : (input : List ℕ) → HasRead p.intake p.outside.left p.audit.book.accounts input → HasRead q.intake q.outside.left q.audit.book.accounts input
-    known_so input known =
-        subst (λ (i : Intake). HasRead i q.outside.left q.audit.book.accounts input) (sym next.intake)
-        (subst (λ (l : Option (List ℕ)). HasRead p.intake l q.audit.book.accounts input) (sym next.source) (subst (λ (xs : List Account). HasRead p.intake p.outside.left xs input) (sym next.accounts) known))
+    known_so : (given : Option (List Account)) (input : List ℕ) → HasRead given p.intake p.outside.left p.audit.book.accounts input → HasRead given q.intake q.outside.left q.audit.book.accounts input
+    known_so given input known =
+        subst (λ (i : Intake). HasRead given i q.outside.left q.audit.book.accounts input) (sym next.intake)
+        (subst (λ (l : Option (List ℕ)). HasRead given p.intake l q.audit.book.accounts input) (sym next.source) (subst (λ (xs : List Account). HasRead given p.intake p.outside.left xs input) (sym next.accounts) known))
 
-    written_so : (start : Outside) → HasWritten start p → HasWritten start q
-    written_so start h =
+    written_so : (given : Option (List Account)) (start : Outside) → HasWritten given start p → HasWritten given start q
+    written_so given start h =
         let text : heading ++ sections (openings q) (take q.written (jobs_by q.intake)) ≡ (heading ++ sections (openings p) done) ++ piece =
         ap (λ (o : List ℕ). heading ++ sections o (take q.written (jobs_by q.intake))) same
         ∙ ap (λ (js : List JobView). heading ++ sections (openings p) js) now_done
@@ -280,7 +280,7 @@ writes_next p q job rest piece next made = record { stands = stands }
         record {
           input = h.input;
           read = subst (λ (l : Option (List ℕ)). Consumes start.left l h.input) (sym next.source) h.read;
-          known = known_so h.input h.known;
+          known = known_so given h.input h.known;
           few = omega arith;
           behind = subst (IsBehind q.audit.book) (sym now_done) (made.behind done h.behind);
           tally = made.tally done h.behind h.tally ∙ ap (λ (o : List ℕ). sections_tally o (done ++ job ∷ [])) (sym same) ∙ ap (sections_tally (openings q)) (sym now_done);
@@ -289,8 +289,8 @@ writes_next p q job rest piece next made = record { stands = stands }
           write_faults = made.faults ∙ h.write_faults;
         }
 
-    stands : (start : Outside) → StandsSince start p → StandsSince start q
-    stands start h = subst (Standing start q) (sym made.free) (written_so start (subst (Standing start p) next.free h))
+    stands : (given : Option (List Account)) (start : Outside) → StandsSince given start p → StandsSince given start q
+    stands given start h = subst (Standing given start q) (sym made.free) (written_so given start (subst (Standing given start p) next.free h))
 
 -- what holds where the next section isn't written whole
 pub record Halts (p q : Progress) (piece : List ℕ) : Type 0 where
@@ -304,24 +304,24 @@ halts_next p q job rest piece next halts = record { stands = stands }
     done : List JobView
     done = take p.written (jobs_by p.intake)
 
-    halted_so : (start : Outside) → HasWritten start p → HasHalted start q.outside WriteFault
-    halted_so start h =
-        let front = front_as_read start p h in
+    halted_so : (given : Option (List Account)) (start : Outside) → HasWritten given start p → HasHalted given start q.outside WriteFault
+    halted_so given start h =
+        let front = front_as_read given start p h in
         let behind = sections_behind (openings p) (done ++ job ∷ []) (rest ++ front.rest) in
-        let left = still_left start p h done (job ∷ rest) h.input front refl next.left in
-        let parts : (section (openings p) done job ++ behind) ++ closing_of (batch h.input) ≡ piece ++ (behind ++ closing_of (batch h.input)) =
-        append_assoc (section (openings p) done job) behind (closing_of (batch h.input)) ∙ ap (λ (t : List ℕ). t ++ (behind ++ closing_of (batch h.input))) (sym (next.text done h.behind)) in
+        let left = still_left given start p h done (job ∷ rest) h.input front refl next.left in
+        let parts : (section (openings p) done job ++ behind) ++ closing_of (batch_with given h.input) ≡ piece ++ (behind ++ closing_of (batch_with given h.input)) =
+        append_assoc (section (openings p) done job) behind (closing_of (batch_with given h.input)) ∙ ap (λ (t : List ℕ). t ++ (behind ++ closing_of (batch_with given h.input))) (sym (next.text done h.behind)) in
         record {
           cut = record {
             input = h.input;
             read = subst (λ (l : Option (List ℕ)). Consumes start.left l h.input) (sym next.source) h.read;
-            wrote = prefix_more _ _ _ _ _ _ (subst (λ (rest : List ℕ). WroteUpTo start.written p.outside.written (listing h.input) rest) parts left) halts.wrote;
+            wrote = prefix_more _ _ _ _ _ _ (subst (λ (rest : List ℕ). WroteUpTo start.written p.outside.written (listing_with given h.input) rest) parts left) halts.wrote;
           };
           cause = subst (λ (n : ℕ). Rose n q.outside.write_faults) h.write_faults halts.cause;
         }
 
-    stands : (start : Outside) → StandsSince start p → StandsSince start q
-    stands start h = subst (Standing start q) (sym halts.halted) (halted_so start (subst (Standing start p) next.free h))
+    stands : (given : Option (List Account)) (start : Outside) → StandsSince given start p → StandsSince given start q
+    stands given start h = subst (Standing given start q) (sym halts.halted) (halted_so given start (subst (Standing given start p) next.free h))
 
 -- ---- how many turns are left
 
@@ -344,8 +344,8 @@ take_whole zero (x ∷ xs) h = absurd (omega arith)
 take_whole (suc n) [] h = refl
 take_whole (suc n) (x ∷ xs) h = ap (λ (js : List JobView). x ∷ js) (take_whole n xs (omega arith))
 
-pub all_so : (start : Outside) (p : Progress) → p.halt ≡ None → p.intake.reader ≡ None → length (jobs_by p.intake) ≤ p.written → StandsSince start p → IsServed start p.outside p.audit p.intake.stray
-all_so start p free ended all stands = record {
+pub all_so : (given : Option (List Account)) (start : Outside) (p : Progress) → p.halt ≡ None → p.intake.reader ≡ None → length (jobs_by p.intake) ≤ p.written → StandsSince given start p → IsServed given start p.outside p.audit p.intake.stray
+all_so given start p free ended all stands = record {
   input = h.input;
   read = h.read;
   to_end = known.0;
@@ -353,34 +353,34 @@ all_so start p free ended all stands = record {
   accounts = sym (ap (λ (b : Batch). b.accounts) known.2);
   stray_is = sym (ap (λ (b : Batch). b.stray) known.2);
   behind = subst (IsBehind p.audit.book) jobs h.behind;
-  tally = h.tally ∙ ap (sections_tally (openings p)) jobs ∙ ap (λ (xs : List Account). sections_tally (openings_of xs) (batch h.input).jobs) accounts;
-  wrote = subst (λ (xs : List Account). Appends start.written p.outside.written (heading ++ sections (openings_of xs) (batch h.input).jobs)) accounts
+  tally = h.tally ∙ ap (sections_tally (openings p)) jobs ∙ ap (λ (xs : List Account). sections_tally (openings_of xs) (batch_with given h.input).jobs) accounts;
+  wrote = subst (λ (xs : List Account). Appends start.written p.outside.written (heading ++ sections (openings_of xs) (batch_with given h.input).jobs)) accounts
       (subst (λ (js : List JobView). Appends start.written p.outside.written (heading ++ sections (openings p) js)) jobs h.wrote);
   read_faults = h.read_faults;
   write_faults = h.write_faults;
 }
   where
-    h : HasWritten start p
-    h = subst (Standing start p) free stands
+    h : HasWritten given start p
+    h = subst (Standing given start p) free stands
 
-    known : Knows None p.outside.left p.audit.book.accounts (jobs_by p.intake) p.intake.stray h.input
-    known = subst (λ (r : Option Reader). Knows r p.outside.left p.audit.book.accounts (jobs_by p.intake) p.intake.stray h.input) ended h.known
+    known : Knows given None p.outside.left p.audit.book.accounts (jobs_by p.intake) p.intake.stray h.input
+    known = subst (λ (r : Option Reader). Knows given r p.outside.left p.audit.book.accounts (jobs_by p.intake) p.intake.stray h.input) ended h.known
 
-    accounts : p.audit.book.accounts ≡ (batch h.input).accounts
+    accounts : p.audit.book.accounts ≡ (batch_with given h.input).accounts
     accounts = sym (ap (λ (b : Batch). b.accounts) known.2)
 
-    jobs : take p.written (jobs_by p.intake) ≡ (batch h.input).jobs
+    jobs : take p.written (jobs_by p.intake) ≡ (batch_with given h.input).jobs
     jobs = take_whole p.written (jobs_by p.intake) all ∙ sym (ap (λ (b : Batch). b.jobs) known.2)
 
-pub stopped_so : (start : Outside) (p : Progress) (halt : Halt) → p.halt ≡ Some halt → StandsSince start p → HasHalted start p.outside halt
-stopped_so start p halt halted stands = subst (Standing start p) halted stands
+pub stopped_so : (given : Option (List Account)) (start : Outside) (p : Progress) (halt : Halt) → p.halt ≡ Some halt → StandsSince given start p → HasHalted given start p.outside halt
+stopped_so given start p halt halted stands = subst (Standing given start p) halted stands
 
 -- a docket before the first section
-pub begun_so : (start now : Outside) (docket : Docket) → docket.written ≡ 0 → docket.halt ≡ None → HasWritten start (begun now docket.intake docket.audit) → StandsSince start (progress docket now)
-begun_so start now docket none free h =
+pub begun_so : (given : Option (List Account)) (start now : Outside) (docket : Docket) → docket.written ≡ 0 → docket.halt ≡ None → HasWritten given start (begun now docket.intake docket.audit) → StandsSince given start (progress docket now)
+begun_so given start now docket none free h =
     let same : progress docket now ≡ begun now docket.intake docket.audit =
     ap (λ (n : ℕ). record (progress docket now) { written = n }) none ∙ ap (λ (halt : Option Halt). record (begun now docket.intake docket.audit) { halt = halt }) free in
-    subst (StandsSince start) (sym same) h
+    subst (StandsSince given start) (sym same) h
 
 -- without a section, nothing is written
 pub none_written : (written : Option (List ℕ)) (text : List ℕ) → AppendsPrefix written written text
@@ -388,9 +388,9 @@ none_written written text = (0, Appends-nil written)
 
 -- ---- before the first section
 
-pub front_halted : (start now : Outside) (halt : Halt) → now.written ≡ start.written → StopsFront start.left now.left start.read_faults now.read_faults halt → HasHalted start now halt
-front_halted start now halt same stops = record {
-  cut = record { input = stops.input; read = stops.read; wrote = subst (λ (w : Option (List ℕ)). AppendsPrefix start.written w (listing stops.input)) (sym same) (none_written start.written (listing stops.input)) };
+pub front_halted : (given : Option (List Account)) (start now : Outside) (halt : Halt) → now.written ≡ start.written → StopsFront start.left now.left start.read_faults now.read_faults halt → HasHalted given start now halt
+front_halted given start now halt same stops = record {
+  cut = record { input = stops.input; read = stops.read; wrote = subst (λ (w : Option (List ℕ)). AppendsPrefix start.written w (listing_with given stops.input)) (sym same) (none_written start.written (listing_with given stops.input)) };
   cause = cause_so halt stops.cause;
 }
   where
@@ -401,25 +401,25 @@ front_halted start now halt same stops = record {
     cause_so TooLarge cause = cause
 
 -- where the heading isn't written whole
-pub heading_halted : (start now : Outside) (intake : Intake) (audit : Audit) → IsOpened start.left now.left intake audit → AppendsPrefix start.written now.written heading → Rose start.write_faults now.write_faults
-    → HasHalted start now WriteFault
-heading_halted start now intake audit opened wrote rose =
-    let b = batch opened.input in
+pub heading_halted : (given : Option (List Account)) (start now : Outside) (intake : Intake) (audit : Audit) → IsOpened given start.left now.left intake audit → AppendsPrefix start.written now.written heading → Rose start.write_faults now.write_faults
+    → HasHalted given start now WriteFault
+heading_halted given start now intake audit opened wrote rose =
+    let b = batch_with given opened.input in
     let text = sections (openings_of b.accounts) b.jobs in
-    let parts : listing opened.input ≡ heading ++ (text ++ closing_of b) = append_assoc heading text (closing_of b) in
+    let parts : listing_with given opened.input ≡ heading ++ (text ++ closing_of b) = append_assoc heading text (closing_of b) in
     record {
       cut = record {
         input = opened.input;
         read = opened.read;
-        wrote = prefix_more _ _ _ _ _ _ (subst (λ (rest : List ℕ). WroteUpTo start.written start.written (listing opened.input) rest) parts (all_left start.written (listing opened.input))) wrote;
+        wrote = prefix_more _ _ _ _ _ _ (subst (λ (rest : List ℕ). WroteUpTo start.written start.written (listing_with given opened.input) rest) parts (all_left start.written (listing_with given opened.input))) wrote;
       };
       cause = rose;
     }
 
 -- where it is
-pub opened_so : (start now : Outside) (intake : Intake) (audit : Audit) → IsOpened start.left now.left intake audit → Appends start.written now.written heading → now.read_faults ≡ start.read_faults → now.write_faults ≡ start.write_faults
-    → HasWritten start (begun now intake audit)
-opened_so start now intake audit opened wrote read_faults write_faults = record {
+pub opened_so : (given : Option (List Account)) (start now : Outside) (intake : Intake) (audit : Audit) → IsOpened given start.left now.left intake audit → Appends start.written now.written heading → now.read_faults ≡ start.read_faults → now.write_faults ≡ start.write_faults
+    → HasWritten given start (begun now intake audit)
+opened_so given start now intake audit opened wrote read_faults write_faults = record {
   input = opened.input;
   read = opened.read;
   known = opened.known;

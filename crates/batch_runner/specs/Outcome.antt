@@ -2,26 +2,31 @@
 use Rattle.std.specs.Prelude.{ℕ, ◌≡◌, false, List, Option}
 use Rattle.std.specs.Io.KnownBytes.{Consumes, Appends, IsAtEnd}
 use Rattle.batch_io.specs.Causes.{Rose}
-use Rattle.deck_reader.specs.Batch.{too_large}
-use Rattle.batch_listing.specs.Listing.{listing}
+use Rattle.deck_reader.specs.declared.batch.Account.{Account}
+use Rattle.deck_reader.specs.Batch.{batch_with, too_large}
+use Rattle.batch_listing.specs.declared.audit.Audit.{Audit}
+use Rattle.batch_listing.specs.Behind.{IsBehind}
+use Rattle.batch_listing.specs.Listing.{listing_with}
 use Rattle.batch_listing.specs.Writing.{AppendsPrefix}
 use Rattle.batch_intake.specs.declared.halt.Halt.{Halt}
 use Rattle.batch_intake.specs.Halts.{IsTooLarge}
 use Rattle.batch_intake.specs.declared.halt.Halt.TheVariants.{NoMemory, ReadFault, WriteFault, TooLarge}
 
--- the whole source was read, it wasn't too large, and its listing was written whole
-pub record IsDone (left left' written written' : Option (List ℕ)) : Type 0 where
+-- the whole source was read, it wasn't too large, its listing was written whole, and this audit is behind its last job
+pub record IsListed (given : Option (List Account)) (left left' written written' : Option (List ℕ)) (audit : Audit) : Type 0 where
   pub input : List ℕ
   pub read : Consumes left left' input
   pub to_end : IsAtEnd left'
   pub fits : too_large input ≡ false
-  pub wrote : Appends written written' (listing input)
+  pub wrote : Appends written written' (listing_with given input)
+  pub accounts : audit.book.accounts ≡ (batch_with given input).accounts
+  pub behind : IsBehind audit.book (batch_with given input).jobs
 
 -- a part of the source was read, and a prefix of the listing of that part was written
-pub record IsCutShort (left left' written written' : Option (List ℕ)) : Type 0 where
+pub record IsCutShort (given : Option (List Account)) (left left' written written' : Option (List ℕ)) : Type 0 where
   pub input : List ℕ
   pub read : Consumes left left' input
-  pub wrote : AppendsPrefix written written' (listing input)
+  pub wrote : AppendsPrefix written written' (listing_with given input)
 
 -- what a source has left and a sink was given, as far as they tell, and how many faults each has met
 pub record Outside : Type 0 where
@@ -41,6 +46,6 @@ HasCause WriteFault start now = Rose start.write_faults now.write_faults
 HasCause TooLarge start now = IsTooLarge start.left now.left
 
 -- a prefix of the listing of what was read was written since the start, and why no more was
-pub record HasHalted (start now : Outside) (halt : Halt) : Type 0 where
-  pub cut : IsCutShort start.left now.left start.written now.written
+pub record HasHalted (given : Option (List Account)) (start now : Outside) (halt : Halt) : Type 0 where
+  pub cut : IsCutShort given start.left now.left start.written now.written
   pub cause : HasCause halt start now

@@ -1,7 +1,8 @@
 -- How far the listing of a batch is.
 use Rattle.std.specs.Prelude.{ℕ, ◌≡◌, ◌≤◌, ◌++◌, false, List, [], Option, Some, None, length, take}
 use Rattle.std.specs.Io.KnownBytes.{Appends, Consumes, IsAtEnd}
-use Rattle.deck_reader.specs.Batch.{batch, too_large}
+use Rattle.deck_reader.specs.declared.batch.Account.{Account}
+use Rattle.deck_reader.specs.Batch.{batch_with, too_large}
 use Rattle.account_book.specs.BookView.{openings_of}
 use Rattle.batch_listing.specs.declared.audit.Audit.{Audit}
 use Rattle.batch_listing.specs.Behind.{IsBehind}
@@ -27,10 +28,10 @@ abbrev pub openings : Progress → List ℕ
 openings p = openings_of p.audit.book.accounts
 
 -- an input was read since the start, and the heading and the sections of its first jobs were made and written
-pub record HasWritten (start : Outside) (p : Progress) : Type 0 where
+pub record HasWritten (given : Option (List Account)) (start : Outside) (p : Progress) : Type 0 where
   pub input : List ℕ
   pub read : Consumes start.left p.outside.left input
-  pub known : HasRead p.intake p.outside.left p.audit.book.accounts input
+  pub known : HasRead given p.intake p.outside.left p.audit.book.accounts input
   pub few : p.written ≤ length (jobs_by p.intake)
   pub behind : IsBehind p.audit.book (take p.written (jobs_by p.intake))
   pub tally : p.audit.tally ≡ sections_tally (openings p) (take p.written (jobs_by p.intake))
@@ -38,17 +39,17 @@ pub record HasWritten (start : Outside) (p : Progress) : Type 0 where
   pub read_faults : p.outside.read_faults ≡ start.read_faults
   pub write_faults : p.outside.write_faults ≡ start.write_faults
 
-abbrev pub Standing : Outside → Progress → Option Halt → Type 0
-Standing start p None = HasWritten start p
-Standing start p (Some halt) = HasHalted start p.outside halt
+abbrev pub Standing : Option (List Account) → Outside → Progress → Option Halt → Type 0
+Standing given start p None = HasWritten given start p
+Standing given start p (Some halt) = HasHalted given start p.outside halt
 
 -- either this, or something halts it
-abbrev pub StandsSince : Outside → Progress → Type 0
-StandsSince start p = Standing start p p.halt
+abbrev pub StandsSince : Option (List Account) → Outside → Progress → Type 0
+StandsSince given start p = Standing given start p p.halt
 
--- what stood since any start stands still
+-- what stood since any start stands still, whatever accounts are given
 pub record GoesOn (old new : Progress) : Type 0 where
-  pub stands : (start : Outside) → StandsSince start old → StandsSince start new
+  pub stands : (given : Option (List Account)) (start : Outside) → StandsSince given start old → StandsSince given start new
 
 -- the progress of a docket, where this was read and written
 abbrev pub progress : Docket → Outside → Progress
@@ -59,23 +60,23 @@ abbrev pub begun : Outside → Intake → Audit → Progress
 begun now intake audit = record { outside = now; intake = intake; audit = audit; written = 0; halt = None }
 
 -- the accounts of a batch, of which so much was read, are in the audit's book, and no section is made
-pub record IsOpened (left left' : Option (List ℕ)) (intake : Intake) (audit : Audit) : Type 0 where
+pub record IsOpened (given : Option (List Account)) (left left' : Option (List ℕ)) (intake : Intake) (audit : Audit) : Type 0 where
   pub input : List ℕ
   pub read : Consumes left left' input
-  pub known : HasRead intake left' audit.book.accounts input
+  pub known : HasRead given intake left' audit.book.accounts input
   pub behind : IsBehind audit.book []
   pub tally : audit.tally ≡ sections_tally (openings_of audit.book.accounts) []
 
 -- the whole source was read and wasn't too large, the heading and all sections were written, and this audit is behind the last
-pub record IsServed (start now : Outside) (audit : Audit) (stray : ℕ) : Type 0 where
+pub record IsServed (given : Option (List Account)) (start now : Outside) (audit : Audit) (stray : ℕ) : Type 0 where
   pub input : List ℕ
   pub read : Consumes start.left now.left input
   pub to_end : IsAtEnd now.left
   pub fits : too_large input ≡ false
-  pub accounts : audit.book.accounts ≡ (batch input).accounts
-  pub stray_is : stray ≡ (batch input).stray
-  pub behind : IsBehind audit.book (batch input).jobs
-  pub tally : audit.tally ≡ sections_tally (openings_of (batch input).accounts) (batch input).jobs
-  pub wrote : Appends start.written now.written (heading ++ sections (openings_of (batch input).accounts) (batch input).jobs)
+  pub accounts : audit.book.accounts ≡ (batch_with given input).accounts
+  pub stray_is : stray ≡ (batch_with given input).stray
+  pub behind : IsBehind audit.book (batch_with given input).jobs
+  pub tally : audit.tally ≡ sections_tally (openings_of (batch_with given input).accounts) (batch_with given input).jobs
+  pub wrote : Appends start.written now.written (heading ++ sections (openings_of (batch_with given input).accounts) (batch_with given input).jobs)
   pub read_faults : now.read_faults ≡ start.read_faults
   pub write_faults : now.write_faults ≡ start.write_faults

@@ -2,7 +2,7 @@
 use Rattle.batch_runner.specs.Progress.{Progress, GoesOn}
 
 pub goes_nowhere : (p : Progress) → GoesOn p p
-goes_nowhere p = record { stands = λ start h. h }
+goes_nowhere p = record { stands = λ given start h. h }
 
 pub goes_further : (p q r : Progress) → GoesOn p q → GoesOn q r → GoesOn p r
-goes_further p q r a b = record { stands = λ start h. b.stands start (a.stands start h) }
+goes_further p q r a b = record { stands = λ given start h. b.stands given start (a.stands given start h) }

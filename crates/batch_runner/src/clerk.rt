@@ -143,7 +143,10 @@ fn arrive_all<B: QueueBrand>(
     jobs: &[Arc<Job>],
     from: usize,
 ) -> Result<(), AllocError> {
-    for job in jobs.iter().skip(from) {
+    let Some(behind) = jobs.get(from..) else {
+        return Ok(());
+    };
+    for job in behind {
         match office.arrive(job.clone()?) {
             Ok(()) => {}
             Err(ArriveError::NoMemory) => return Err(AllocError),

@@ -1,8 +1,9 @@
-ghost use Rattle.std.specs.Prelude.{◌≡◌, ◌≤◌, ◌+◌, true, None, IfErr, IfOk, IfSome, OnErr, OnOk, IsErrOf, length};
+ghost use Rattle.std.specs.Prelude.{◌≡◌, ◌≤◌, ◌+◌, true, List, Option, None, IfErr, IfOk, IfSome, OnErr, OnOk, IsErrOf, length};
 ghost use Rattle.batch_io.specs.Causes.{Rose};
+ghost use Rattle.deck_reader.specs.declared.batch.Account.{Account};
 ghost use Rattle.deck_reader.specs.Batch.{batch, too_large};
 ghost use Rattle.batch_listing.specs.Tallies.{listing_tally};
-ghost use Rattle.batch_runner.specs.Outcome.{HasHalted, IsCutShort, IsDone, Outside, outside};
+ghost use Rattle.batch_runner.specs.Outcome.{HasHalted, IsCutShort, IsListed, Outside, outside};
 ghost use Rattle.batch_intake.specs.Halts.{IsTooLarge};
 ghost use Rattle.batch_runner.specs.Progress.{HasWritten, IsOpened, IsServed, begun};
 ghost use Rattle.batch_intake.specs.Taking.{StopsFront, stray_of};
@@ -16,6 +17,7 @@ use batch_io::{Gate, MemSource, Sink, Source};
 use batch_listing::{Audit, heading, write_all_of};
 use batch_summary::Tally;
 use crossbeam_utils::CachePadded;
+use deck_reader::{Account, Listed};
 use job_queue::FreshQueue;
 use job_runner::Desk;
 use std::alloc::{AllocError, Global};
@@ -23,23 +25,24 @@ use std::marker::Brand;
 use std::sync::Wait;
 use std::thread::Threads;
 
-/// The bytes of a block that is larger than most that a job asks for.
-const KEPT_ROOM: usize = 1_048_576;
-
 /// Reads a batch, runs its jobs and writes its listing: the heading, each section as it is ready, and the closing lines. The
-/// jobs run while the batch is read.
+/// jobs run while the batch is read. The accounts are those that are given, or else those that the cards open. Gives back the
+/// audit, which knows the closing balances.
 pub fn write_listing<R: Threads + Wait + Sync, S: Source, K: Sink, G: Gate>(
     rt: &R,
     alloc: Global,
+    given: Option<Listed<Account>>,
     src: &mut S,
     sink: &mut K,
     staff: Staff,
     gate: &G,
-) -> Result<(), Halt>
+) -> Result<Audit, Halt>
+    requires few { IfSome given (λ accounts. length accounts ≤ 500) }
+
     // What was written is the listing of the batch, or a prefix of the listing of what was read.
-    ensures done { OnOk result (IsDone (S.left src.old) (S.left src.new) (K.written sink.old) (K.written sink.new)) }
+    ensures done { IfOk result (λ audit. IsListed given (S.left src.old) (S.left src.new) (K.written sink.old) (K.written sink.new) audit) }
     ensures cut { OnErr result
-        (IsCutShort (S.left src.old) (S.left src.new) (K.written sink.old) (K.written sink.new)) }
+        (IsCutShort given (S.left src.old) (S.left src.new) (K.written sink.old) (K.written sink.new)) }
 
     // Each answer has its cause, and no fault is passed over.
     ensures kept { OnOk result ((S.faults src.new ≡ S.faults src.old) × (K.faults sink.new ≡ K.faults sink.old)) }
@@ -47,10 +50,10 @@ pub fn write_listing<R: Threads + Wait + Sync, S: Source, K: Sink, G: Gate>(
     ensures write { IsErrOf result Halt.WriteFault → Rose (K.faults sink.old) (K.faults sink.new) }
     ensures large { IsErrOf result Halt.TooLarge → IsTooLarge (S.left src.old) (S.left src.new) }
 {
-    let served = write_sections(rt, alloc, src, sink, staff, gate)?;
+    let served = write_sections(rt, alloc, given, src, sink, staff, gate)?;
     let closing = served.audit.closing(alloc, served.stray)?;
     write_all_of(sink, closing.as_slice())?;
-    Ok(())
+    Ok(served.audit)
 }
 
 /// Reads a batch, runs its jobs, and tells what its listing comes to.
@@ -66,7 +69,7 @@ pub fn tally_listing<R: Threads + Wait + Sync, G: Gate>(
     ensures large { IsErrOf result Halt.TooLarge → too_large src.left ≡ true }
 {
     let mut nowhere = Nowhere;
-    let served = write_sections(rt, alloc, &mut src, &mut nowhere, staff, gate)?;
+    let served = write_sections(rt, alloc, None, &mut src, &mut nowhere, staff, gate)?;
     let closing = served.audit.closing(alloc, served.stray)?;
     let sections = served.audit.tally();
     let listing = with_closing(sections, closing.as_slice())?;
@@ -95,21 +98,23 @@ struct Served {
 fn write_sections<R: Threads + Wait + Sync, S: Source, K: Sink, G: Gate>(
     rt: &R,
     alloc: Global,
+    given: Option<Listed<Account>>,
     src: &mut S,
     sink: &mut K,
     staff: Staff,
     gate: &G,
 ) -> Result<Served, Halt>
-    ensures ok { IfOk result (λ served. IsServed (outside (S.left src.old) (S.faults src.old) (K.written sink.old) (K.faults sink.old)) (outside (S.left src.new) (S.faults src.new) (K.written sink.new) (K.faults sink.new)) served.audit served.stray) }
-    ensures err { IfErr result (λ halt. HasHalted (outside (S.left src.old) (S.faults src.old) (K.written sink.old) (K.faults sink.old)) (outside (S.left src.new) (S.faults src.new) (K.written sink.new) (K.faults sink.new)) halt) }
+    requires few { IfSome given (λ accounts. length accounts ≤ 500) }
+    ensures ok { IfOk result (λ served. IsServed given (outside (S.left src.old) (S.faults src.old) (K.written sink.old) (K.faults sink.old)) (outside (S.left src.new) (S.faults src.new) (K.written sink.new) (K.faults sink.new)) served.audit served.stray) }
+    ensures err { IfErr result (λ halt. HasHalted given (outside (S.left src.old) (S.faults src.old) (K.written sink.old) (K.faults sink.old)) (outside (S.left src.new) (S.faults src.new) (K.written sink.new) (K.faults sink.new)) halt) }
 {
-    let opened = open_batch(alloc, src, staff)?;
+    let Staff { mut desks, queue } = staff;
+    let opened = open_batch(alloc, given, src, queue)?;
     write_all_of(sink, heading())?;
     let Opened {
         intake,
         book,
         audit,
-        mut desks,
         fresh,
     } = opened;
     let desks = desks.as_mut_slice();
@@ -131,26 +136,30 @@ struct Opened {
     intake: Intake,
     book: Book,
     audit: Audit,
-    desks: Vec<CachePadded<Desk>>,
     fresh: FreshQueue,
 }
 
-/// Reads the accounts of a batch, and opens its books, desks and queue.
-fn open_batch<S: Source>(alloc: Global, src: &mut S, staff: Staff) -> Result<Opened, Halt>
-    ensures ok { IfOk result (λ opened. IsOpened (S.left src.old) (S.left src.new) opened.intake opened.audit) }
-    ensures desks { IfOk result (λ opened. length opened.desks.items ≡ staff.workers) }
+/// Reads the accounts of a batch, and opens its books and its queue of so many places.
+fn open_batch<S: Source>(
+    alloc: Global,
+    given: Option<Listed<Account>>,
+    src: &mut S,
+    queue: u32,
+) -> Result<Opened, Halt>
+    requires few { IfSome given (λ accounts. length accounts ≤ 500) }
+    requires queue { (1 ≤ queue) × (queue ≤ 64) }
+    ensures ok { IfOk result (λ opened. IsOpened given (S.left src.old) (S.left src.new) opened.intake opened.audit) }
     ensures kept { OnOk result (S.faults src.new ≡ S.faults src.old) }
     ensures err { IfErr result (λ halt. StopsFront (S.left src.old) (S.left src.new) (S.faults src.old) (S.faults src.new) halt) }
 {
-    let Front { accounts, intake } = read_front(alloc, src)?;
+    let Front { accounts, intake } = read_front(alloc, given, src)?;
     let book = Book::open(alloc, accounts.as_slice())?;
     let audit = Audit::new(book)?;
     Ok(Opened {
         intake,
         book: Book::open(alloc, accounts.as_slice())?,
         audit,
-        fresh: FreshQueue::new(alloc, staff.queue())?,
-        desks: desks(alloc, staff.workers())?,
+        fresh: FreshQueue::new(alloc, queue)?,
     })
 }
 
@@ -169,33 +178,13 @@ fn serve<R: Threads + Wait + Sync, S: Source, K: Sink, G: Gate>(
 ) -> Docket
     requires desks { 1 ≤ length desks.old }
     requires few { length desks.old ≤ 16 }
-    ensures all { (start : Outside) → HasWritten start (begun (outside (S.left src.old) (S.faults src.old) (K.written sink.old) (K.faults sink.old)) intake audit) → result.halt ≡ None
-        → IsServed start (outside (S.left src.new) (S.faults src.new) (K.written sink.new) (K.faults sink.new)) result.audit (stray_of result.intake) }
-    ensures some { (start : Outside) → HasWritten start (begun (outside (S.left src.old) (S.faults src.old) (K.written sink.old) (K.faults sink.old)) intake audit)
-        → IfSome result.halt (λ halt. HasHalted start (outside (S.left src.new) (S.faults src.new) (K.written sink.new) (K.faults sink.new)) halt) }
+    ensures all { (given : Option (List Account)) (start : Outside) → HasWritten given start (begun (outside (S.left src.old) (S.faults src.old) (K.written sink.old) (K.faults sink.old)) intake audit) → result.halt ≡ None
+        → IsServed given start (outside (S.left src.new) (S.faults src.new) (K.written sink.new) (K.faults sink.new)) result.audit (stray_of result.intake) }
+    ensures some { (given : Option (List Account)) (start : Outside) → HasWritten given start (begun (outside (S.left src.old) (S.faults src.old) (K.written sink.old) (K.faults sink.old)) intake audit)
+        → IfSome result.halt (λ halt. HasHalted given start (outside (S.left src.new) (S.faults src.new) (K.written sink.new) (K.faults sink.new)) halt) }
 {
     let docket = Docket::new(alloc, intake, audit);
     let clerk = Clerk { src, sink, docket };
     let after = run_jobs::<Brand, R, S, K, G>(rt, alloc, fresh, book, desks, gate, clerk);
     after.into_docket()
-}
-
-/// Asks for a block that is larger than most that a job asks for, and gives it back. An allocator that has seen such a block
-/// come and go, as that of the GNU C library, keeps what a job gives back for the next one. Otherwise it gives that to the
-/// system at the end of each job, and asks for it anew.
-fn keep_room(alloc: Global) -> Result<(), AllocError> {
-    let mut room: Vec<u8> = Vec::new(alloc);
-    room.reserve_exact(KEPT_ROOM)
-}
-
-/// So many desks, each on lines of the caches of its own, so that no worker slows another down.
-fn desks(alloc: Global, count: u32) -> Result<Vec<CachePadded<Desk>>, AllocError>
-    ensures { IfOk result (λ desks. length desks.items ≡ count) }
-{
-    keep_room(alloc)?;
-    let mut all = Vec::with_capacity(alloc, count as usize)?;
-    for _ in 0..count {
-        all.push(CachePadded::new(Desk::new(alloc)?))?;
-    }
-    Ok(all)
 }

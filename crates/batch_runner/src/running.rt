@@ -1,4 +1,5 @@
-ghost use Rattle.std.specs.Prelude.{◌≡◌, ◌≤◌, None, IfSome, length};
+ghost use Rattle.std.specs.Prelude.{◌≡◌, ◌≤◌, List, Option, None, IfOk, IfSome, length};
+ghost use Rattle.deck_reader.specs.declared.batch.Account.{Account};
 ghost use Rattle.batch_intake.specs.Taking.{stray_of};
 ghost use Rattle.batch_runner.specs.Outcome.{HasHalted, Outside, outside};
 ghost use Rattle.batch_runner.specs.Progress.{GoesOn, HasWritten, IsServed, begun, progress};
@@ -10,43 +11,54 @@ use crossbeam_utils::CachePadded;
 use job_queue::{FreshQueue, QueueBrand};
 use job_runner::Desk;
 use office::Office;
-use std::alloc::Global;
+use std::alloc::{AllocError, Global};
 use std::sync::Wait;
 use std::thread::Threads;
 use worker_pool::{Pooled, gather, run_pool};
 
-/// How many workers run the jobs of a batch, and how many accepted jobs may wait for them.
-#[derive(Clone, Copy, Debug, PartialEq, Eq)]
+/// The bytes of a block that is larger than most that a job asks for.
+const KEPT_ROOM: usize = 1_048_576;
+
+/// The workers that run the jobs of a batch, each at a desk of its own, and how many accepted jobs may wait for them.
+#[derive(Drop)]
 pub struct Staff {
-    workers: u32,
-    queue: u32,
-    ghost some: { (1 ≤ workers) × (workers ≤ 16) },
+    pub(crate) desks: Vec<CachePadded<Desk>>,
+    pub(crate) queue: u32,
+    ghost some: { 1 ≤ length desks.items },
+    ghost few: { length desks.items ≤ 16 },
     ghost room: { (1 ≤ queue) × (queue ≤ 64) },
 }
 
 impl Staff {
-    /// 1 to 16 workers, and a queue of 1 to 64 places.
-    pub fn new(workers: u32, queue: u32) -> Staff
+    /// 1 to 16 workers, for whom desks are made, and a queue of 1 to 64 places.
+    pub fn new(alloc: Global, workers: u32, queue: u32) -> Result<Staff, AllocError>
         requires workers { (1 ≤ workers) × (workers ≤ 16) }
         requires queue { (1 ≤ queue) × (queue ≤ 64) }
-        ensures { (result.workers ≡ workers) × (result.queue ≡ queue) }
+        ensures { IfOk result (λ staff. (length staff.desks.items ≡ workers) × (staff.queue ≡ queue)) }
     {
-        Staff { workers, queue }
+        let desks = desks(alloc, workers)?;
+        Ok(Staff { desks, queue })
     }
+}
 
-    /// The workers, 1 to 16.
-    pub fn workers(self) -> u32
-        ensures { result ≡ self.workers }
-    {
-        self.workers
-    }
+/// Asks for a block that is larger than most that a job asks for, and gives it back. An allocator that has seen such a block
+/// come and go, as that of the GNU C library, keeps what a job gives back for the next one. Otherwise it gives that to the
+/// system at the end of each job, and asks for it anew. No run ends where there is no such block.
+fn keep_room(alloc: Global) {
+    let mut room: Vec<u8> = Vec::new(alloc);
+    let _refused = room.reserve_exact(KEPT_ROOM).is_err();
+}
 
-    /// The places of the queue, 1 to 64.
-    pub fn queue(self) -> u32
-        ensures { result ≡ self.queue }
-    {
-        self.queue
+/// So many desks, each on lines of the caches of its own, so that no worker slows another down.
+fn desks(alloc: Global, count: u32) -> Result<Vec<CachePadded<Desk>>, AllocError>
+    ensures { IfOk result (λ desks. length desks.items ≡ count) }
+{
+    keep_room(alloc);
+    let mut all = Vec::with_capacity(alloc, count as usize)?;
+    for _ in 0..count {
+        all.push(CachePadded::new(Desk::new(alloc)?))?;
     }
+    Ok(all)
 }
 
 /// Lets a clerk read a batch and write all sections, while a worker at each of these desks runs the jobs.
@@ -75,10 +87,10 @@ pub(crate) fn run_jobs<
     requires free { clerk.docket.halt ≡ None }
     requires none { clerk.docket.written ≡ 0 }
     ensures same_ports { (result.src.ghost_name ≡ clerk.entry.src.ghost_name) × (result.sink.ghost_name ≡ clerk.entry.sink.ghost_name) }
-    ensures all { (start : Outside) → HasWritten start (begun (outside (S.left clerk.entry.src.now) (S.faults clerk.entry.src.now) (K.written clerk.entry.sink.now) (K.faults clerk.entry.sink.now)) clerk.entry.docket.intake clerk.entry.docket.audit)
-        → result.docket.halt ≡ None → IsServed start (outside (S.left result.src.now) (S.faults result.src.now) (K.written result.sink.now) (K.faults result.sink.now)) result.docket.audit (stray_of result.docket.intake) }
-    ensures some { (start : Outside) → HasWritten start (begun (outside (S.left clerk.entry.src.now) (S.faults clerk.entry.src.now) (K.written clerk.entry.sink.now) (K.faults clerk.entry.sink.now)) clerk.entry.docket.intake clerk.entry.docket.audit)
-        → IfSome result.docket.halt (λ halt. HasHalted start (outside (S.left result.src.now) (S.faults result.src.now) (K.written result.sink.now) (K.faults result.sink.now)) halt) }
+    ensures all { (given : Option (List Account)) (start : Outside) → HasWritten given start (begun (outside (S.left clerk.entry.src.now) (S.faults clerk.entry.src.now) (K.written clerk.entry.sink.now) (K.faults clerk.entry.sink.now)) clerk.entry.docket.intake clerk.entry.docket.audit)
+        → result.docket.halt ≡ None → IsServed given start (outside (S.left result.src.now) (S.faults result.src.now) (K.written result.sink.now) (K.faults result.sink.now)) result.docket.audit (stray_of result.docket.intake) }
+    ensures some { (given : Option (List Account)) (start : Outside) → HasWritten given start (begun (outside (S.left clerk.entry.src.now) (S.faults clerk.entry.src.now) (K.written clerk.entry.sink.now) (K.faults clerk.entry.sink.now)) clerk.entry.docket.intake clerk.entry.docket.audit)
+        → IfSome result.docket.halt (λ halt. HasHalted given start (outside (S.left result.src.now) (S.faults result.src.now) (K.written result.sink.now) (K.faults result.sink.now)) halt) }
 {
     let (queue, put, take, settled) = fresh.open::<B>();
     let Ok(office) = Office::new(alloc, book, put, settled) else {

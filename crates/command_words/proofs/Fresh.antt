@@ -1,24 +1,24 @@
--- That each option is known and used at most once, followed from left to right.
+-- That each option and flag is known and used at most once, followed from left to right.
 use Rattle.std.proofs.Common.{◌≡◌, ◌∙◌, sym, ap, refl, Bool, true, false, List, [], ◌∷◌, ◌++◌, map}
 use Rattle.std.specs.Prelude.{not, ◌&&◌, ◌||◌}
 use Rattle.std.specs.List.{AllByRecursion, IsDistinct, list_any, list_all}
 use Rattle.std.specs.Str.{bytes_eq}
 use Rattle.std.proofs.lemmas.List.Folds.{list_any-append}
-use Rattle.command_words.specs.Form.{Text, Use, is_known}
+use Rattle.command_words.specs.Form.{Text, Use, is_known, name_of}
 
 abbrev pub has_use : Text → List Use → Bool
-has_use name uses = list_any (λ u. bytes_eq u.name name) uses
+has_use name uses = list_any (λ u. bytes_eq (name_of u) name) uses
 
 -- each option is known, and none of those before it
 abbrev pub is_fresh : List Use → List Use → Bool
 is_fresh before [] = true
-is_fresh before (u ∷ rest) = is_known u.name && (not (has_use u.name before) && is_fresh (before ++ u ∷ []) rest)
+is_fresh before (u ∷ rest) = is_known u && (not (has_use (name_of u) before) && is_fresh (before ++ u ∷ []) rest)
 
 abbrev pub names_of : List Use → List Text
-names_of uses = map (λ u. u.name) uses
+names_of uses = map name_of uses
 
 abbrev pub are_known : List Use → Bool
-are_known uses = list_all (λ u. is_known u.name) uses
+are_known uses = list_all is_known uses
 
 pub and_first : (a b : Bool) → (a && b) ≡ true → a ≡ true
 and_first true b e = refl
@@ -47,18 +47,18 @@ or_second true b e = cc
 abbrev AreUnused : List Use → List Text → Type 0
 AreUnused before names = AllByRecursion (λ name. has_use name before ≡ false) names
 
-use_more : (name : Text) (before : List Use) (u : Use) → has_use name (before ++ u ∷ []) ≡ (has_use name before || (bytes_eq u.name name || false))
-use_more name before u = list_any-append (λ v. bytes_eq v.name name) before (u ∷ [])
+use_more : (name : Text) (before : List Use) (u : Use) → has_use name (before ++ u ∷ []) ≡ (has_use name before || (bytes_eq (name_of u) name || false))
+use_more name before u = list_any-append (λ v. bytes_eq (name_of v) name) before (u ∷ [])
 
 unused_before : (before : List Use) (u : Use) (names : List Text) → AreUnused (before ++ u ∷ []) names → AreUnused before names
 unused_before before u [] h = tt
 unused_before before u (name ∷ names) h = (or_first _ _ (sym (use_more name before u) ∙ h.0), unused_before before u names h.1)
 
-others_than : (before : List Use) (u : Use) (names : List Text) → AreUnused (before ++ u ∷ []) names → AllByRecursion (λ name. bytes_eq u.name name ≡ false) names
+others_than : (before : List Use) (u : Use) (names : List Text) → AreUnused (before ++ u ∷ []) names → AllByRecursion (λ name. bytes_eq (name_of u) name ≡ false) names
 others_than before u [] h = tt
 others_than before u (name ∷ names) h = (or_first _ _ (or_second _ _ (sym (use_more name before u) ∙ h.0)), others_than before u names h.1)
 
-unused_more : (before : List Use) (u : Use) (names : List Text) → AreUnused before names → AllByRecursion (λ name. bytes_eq u.name name ≡ false) names → AreUnused (before ++ u ∷ []) names
+unused_more : (before : List Use) (u : Use) (names : List Text) → AreUnused before names → AllByRecursion (λ name. bytes_eq (name_of u) name ≡ false) names → AreUnused (before ++ u ∷ []) names
 unused_more before u [] h o = tt
 unused_more before u (name ∷ names) h o = (use_more name before u ∙ rw (h.0, o.0) refl, unused_more before u names h.1 o.1)
 

@@ -1,50 +1,159 @@
 -- From what clap gives to the order.
 use Rattle.std.proofs.Common.{◌≡◌, ◌∙◌, sym, ap, ap₂, refl, ℕ, Bool, true, false, List, [], ◌∷◌, ◌++◌, Option, Some, None, codes, append_assoc, map}
-use Rattle.std.specs.Prelude.{if◌then◌else◌, unwrap_or, ◌==◌}
+use Rattle.std.specs.Prelude.{if◌then◌else◌, unwrap_or, ◌==◌, find, option_map}
 use Rattle.std.specs.List.{list_all}
 use Rattle.std.specs.Str.{bytes_eq}
 use Rattle.std.proofs.lemmas.Slice.Eq.{bytes_eq-Decides}
-use Rattle.clap.specs.Walk.{Text, first_of}
+use Rattle.clap.specs.declared.builder.value_parser.Reading.{Reading}
+use Rattle.clap.specs.declared.builder.value_parser.Reading.TheVariants as reading
+use Rattle.clap.specs.declared.parser.matches.ValueSource.{ValueSource}
+use Rattle.clap.specs.declared.parser.matches.ValueSource.TheVariants.{DefaultValue}
+use Rattle.clap.specs.Walk.{Row, Text, first_of, has_row, one_of, with_default, with_values}
 use Rattle.clap.specs.Faults.{fault_of}
 use Rattle.clap.specs.Simple.{matches_of}
 use Rattle.command_words.specs.Command.{monitor_app}
-use Rattle.clap.specs.Words.{first_value, rows_of}
-use Rattle.clap.proofs.WalkLemmas.{first_value-rows}
+use Rattle.clap.specs.Words.{first_value, one_text, rows_of}
+use Rattle.clap.proofs.WalkLemmas.{first_value-rows, one_text-rows}
 use Rattle.clap.specs.declared.parser.matches.Found.{Found}
 use Rattle.command_words.specs.declared.order.Order.{Order}
 use Rattle.std.specs.Char.{is_ascii_digit}
 use Rattle.std.specs.Str.Parse.{digits_value}
-use Rattle.command_words.specs.Form.{Use, run_from, make_from, IsOrder, dashed, has_dashes, number_in, number_or, order_from, order_of, value_of, words_of}
-use Rattle.command_words.proofs.Fresh.{and_first, both_true, and_second, not_true, is_fresh, has_use, fresh_by, fresh_is_known, fresh_is_once}
-use Rattle.command_words.proofs.Walked.{Finds, not_dashes}
-use Rattle.command_words.proofs.Whole.{are_plain, is_plain, known_finds, is_hyphen, plain_word_is, row_of, taken_is_read, spelt_is_taken}
+use Rattle.command_words.specs.Form.{Use, apart, joined, flag, flags, has_flag, is_among, is_known, name_of, options, run_from, make_from, IsOrder, dashed, has_dashes, number_in, number_or, order_from, order_of, value_in, value_of, words_of}
+use Rattle.command_words.proofs.Fresh.{and_first, are_known, both_true, and_second, not_true, is_fresh, has_use, fresh_by, fresh_is_known, fresh_is_once}
+use Rattle.command_words.proofs.Walked.{Finds, finds_jobs, finds_make, finds_queue, finds_workers, not_dashes, same}
+use Rattle.command_words.proofs.Whole.{IsRead, accounts, are_plain, is_plain, known_finds, known_flag, is_hyphen, plain_word_is, row_of, taken_is_read, spelt_is_taken, text_of, use_row}
 
-pub first_is_value : (name : Text) (us : List Use) → first_of name (map row_of us) ≡ value_of name us
-first_is_value name [] = refl
-first_is_value name (u ∷ us) = go (bytes_eq u.name name) refl (first_is_value name us)
+-- ---- the values of options
+
+-- the text of the first use of a name
+abbrev pub text_at : Text → List Use → Option Text
+text_at name us = option_map text_of (find (λ u. bytes_eq (name_of u) name) us)
+
+first_is_text : (name : Text) (us : List Use) → first_of name (map row_of us) ≡ text_at name us
+first_is_text name [] = refl
+first_is_text name (u ∷ us) = go (bytes_eq (name_of u) name) refl (first_is_text name us)
   where
-    go : (b : Bool) → bytes_eq u.name name ≡ b → first_of name (map row_of us) ≡ value_of name us → first_of name (map row_of (u ∷ us)) ≡ value_of name (u ∷ us)
+    go : (b : Bool) → bytes_eq (name_of u) name ≡ b → first_of name (map row_of us) ≡ text_at name us → first_of name (map row_of (u ∷ us)) ≡ text_at name (u ∷ us)
     go true e rec = rw e refl
     go false e rec = rw e rec
 
+has_value : (u : Use) → is_known u ≡ true → is_among (name_of u) flags ≡ false → value_in u ≡ Some (text_of u)
+has_value (apart n v) known other = refl
+has_value (joined n v) known other = refl
+has_value (flag n) known other = let bad : true ≡ false = sym known ∙ other in cc
+
+-- the value of an option is the text of its use
+value_is_text : (name : Text) (us : List Use) → Finds name → are_known us ≡ true → value_of name us ≡ text_at name us
+value_is_text name [] f known = refl
+value_is_text name (u ∷ us) f known = go (bytes_eq (name_of u) name) refl (value_is_text name us f (and_second (is_known u) (are_known us) known))
+  where
+    go : (b : Bool) → bytes_eq (name_of u) name ≡ b → value_of name us ≡ text_at name us → value_of name (u ∷ us) ≡ text_at name (u ∷ us)
+    go true e rec = rw e (has_value u (and_first (is_known u) (are_known us) known) (ap (λ (n : Text). is_among n flags) (same (name_of u) name e) ∙ f.is_no_flag))
+    go false e rec = rw e rec
+
+-- values given to a name are none of another's
+first_of_others : (name id : Text) (how : Reading) (source : ValueSource) (values : List Text) (rows : List Row) → bytes_eq id name ≡ false
+    → first_of name (with_values id how source values rows) ≡ first_of name rows
+first_of_others name id how source values [] other = rw other refl
+first_of_others name id how source values (r ∷ rs) other = go (bytes_eq r.id id) (bytes_eq r.id name) refl refl (first_of_others name id how source values rs other)
+  where
+    go : (a b : Bool) → bytes_eq r.id id ≡ a → bytes_eq r.id name ≡ b → first_of name (with_values id how source values rs) ≡ first_of name rs
+        → first_of name (with_values id how source values (r ∷ rs)) ≡ first_of name (r ∷ rs)
+    go true b ea eb rec = rw (ea, ap (λ (i : Text). bytes_eq i name) (same r.id id ea) ∙ other) refl
+    go false true ea eb rec = rw (ea, eb) refl
+    go false false ea eb rec = rw (ea, eb) rec
+
+first_past_default : (name : Text) (rows : List Row) → bytes_eq (codes "accounts") name ≡ false → first_of name (with_default rows accounts) ≡ first_of name rows
+first_past_default name rows other = go (has_row (codes "accounts") rows) refl
+  where
+    go : (b : Bool) → has_row (codes "accounts") rows ≡ b → first_of name (with_default rows accounts) ≡ first_of name rows
+    go true e = rw e refl
+    go false e = rw e (first_of_others name (codes "accounts") reading.AsWritten DefaultValue (codes "false" ∷ []) rows other)
+
+-- ---- the flag
+
+-- what `clap` has for a flag that is used, or isn't
+abbrev pub word_of : Bool → Text
+word_of true = codes "true"
+word_of false = codes "false"
+
+abbrev pub is_true : Option Text → Bool
+is_true None = false
+is_true (Some text) = bytes_eq text (codes "true")
+
+flag_reads : (b : Bool) → is_true (Some (word_of b)) ≡ b
+flag_reads true = refl
+flag_reads false = refl
+
+is_flagged : (u : Use) → is_known u ≡ true → is_among (name_of u) options ≡ false → text_of u ≡ codes "true"
+is_flagged (apart n v) known other = let bad : true ≡ false = sym known ∙ other in cc
+is_flagged (joined n v) known other = let bad : true ≡ false = sym known ∙ other in cc
+is_flagged (flag n) known other = refl
+
+flag_used : (us : List Use) → are_known us ≡ true → has_use (codes "accounts") us ≡ true → one_of (codes "accounts") (map row_of us) ≡ Some (codes "true")
+flag_used [] known h = cc
+flag_used (u ∷ us) known h = go (bytes_eq (name_of u) (codes "accounts")) refl (λ k. flag_used us (and_second (is_known u) (are_known us) known) k)
+  where
+    go : (b : Bool) → bytes_eq (name_of u) (codes "accounts") ≡ b → (has_use (codes "accounts") us ≡ true → one_of (codes "accounts") (map row_of us) ≡ Some (codes "true"))
+        → one_of (codes "accounts") (map row_of (u ∷ us)) ≡ Some (codes "true")
+    go true e rec = rw e (ap (λ (t : Text). Some t) (is_flagged u (and_first (is_known u) (are_known us) known) (ap (λ (n : Text). is_among n options) (same (name_of u) (codes "accounts") e))))
+    go false e rec = rw e (rec (rw e at h))
+
+flag_unused : (rows : List Row) → has_row (codes "accounts") rows ≡ false
+    → one_of (codes "accounts") (with_values (codes "accounts") reading.AsWritten DefaultValue (codes "false" ∷ []) rows) ≡ Some (codes "false")
+flag_unused [] h = refl
+flag_unused (r ∷ rs) h = go (bytes_eq r.id (codes "accounts")) refl (λ k. flag_unused rs k)
+  where
+    go : (b : Bool) → bytes_eq r.id (codes "accounts") ≡ b
+        → (has_row (codes "accounts") rs ≡ false → one_of (codes "accounts") (with_values (codes "accounts") reading.AsWritten DefaultValue (codes "false" ∷ []) rs) ≡ Some (codes "false"))
+        → one_of (codes "accounts") (with_values (codes "accounts") reading.AsWritten DefaultValue (codes "false" ∷ []) (r ∷ rs)) ≡ Some (codes "false")
+    go true e rec = let bad : true ≡ false = rw e at h in cc
+    go false e rec = rw e (rw e (rec (rw e at h)))
+
+flag_by_uses : (us : List Use) → are_known us ≡ true → one_of (codes "accounts") (with_default (map row_of us) accounts) ≡ Some (word_of (has_flag (codes "accounts") us))
+flag_by_uses us known = go (has_flag (codes "accounts") us) refl
+  where
+    go : (b : Bool) → has_flag (codes "accounts") us ≡ b → one_of (codes "accounts") (with_default (map row_of us) accounts) ≡ Some (word_of (has_flag (codes "accounts") us))
+    go true e =
+        let there : has_row (codes "accounts") (map row_of us) ≡ true = sym (use_row (codes "accounts") us) ∙ e in
+        rw (there, e) (flag_used us known e)
+    go false e =
+        let there : has_row (codes "accounts") (map row_of us) ≡ false = sym (use_row (codes "accounts") us) ∙ e in
+        rw (there, e) (flag_unused (map row_of us) there)
+
+-- ---- values are plain
+
 skipped : (name : Text) (before us : List Use) → has_use name before ≡ false → value_of name (before ++ us) ≡ value_of name us
 skipped name [] us h = refl
-skipped name (b ∷ before) us h = go (bytes_eq b.name name) refl (λ k. skipped name before us k)
+skipped name (b ∷ before) us h = go (bytes_eq (name_of b) name) refl (λ k. skipped name before us k)
   where
-    go : (t : Bool) → bytes_eq b.name name ≡ t → (has_use name before ≡ false → value_of name (before ++ us) ≡ value_of name us) → value_of name ((b ∷ before) ++ us) ≡ value_of name us
+    go : (t : Bool) → bytes_eq (name_of b) name ≡ t → (has_use name before ≡ false → value_of name (before ++ us) ≡ value_of name us) → value_of name ((b ∷ before) ++ us) ≡ value_of name us
     go true e rec = let bad : true ≡ false = rw e at h in cc
     go false e rec = rw e (rec (rw e at h))
 
-value_here : (u : Use) (us : List Use) → value_of u.name (u ∷ us) ≡ Some u.value
-value_here u us = rw ((bytes_eq-Decides u.name u.name).1 refl) refl
+here : (n : Text) → bytes_eq n n ≡ true
+here n = (bytes_eq-Decides n n).1 refl
 
-plain_all : (us before : List Use) → is_fresh before us ≡ true
-    → ((n v : Text) → Finds n → value_of n (before ++ us) ≡ Some v → is_plain v ≡ true) → are_plain us ≡ true
+abbrev ArePlain : List Use → Type 0
+ArePlain us = (n v : Text) → Finds n → value_of n us ≡ Some v → is_plain v ≡ true
+
+plain_use : (u : Use) (rest before : List Use) → is_fresh before (u ∷ rest) ≡ true → ArePlain (before ++ u ∷ rest) → is_plain (text_of u) ≡ true
+plain_use (apart n v) rest before fresh h =
+    let u : Use = apart n v in
+    let unused : has_use n before ≡ false = not_true _ (and_first _ _ (and_second _ _ fresh)) in
+    let value : value_of n (u ∷ rest) ≡ Some v = rw (here n) refl in
+    h n v (known_finds n (and_first _ _ fresh)) (skipped n before (u ∷ rest) unused ∙ value)
+plain_use (joined n v) rest before fresh h =
+    let u : Use = joined n v in
+    let unused : has_use n before ≡ false = not_true _ (and_first _ _ (and_second _ _ fresh)) in
+    let value : value_of n (u ∷ rest) ≡ Some v = rw (here n) refl in
+    h n v (known_finds n (and_first _ _ fresh)) (skipped n before (u ∷ rest) unused ∙ value)
+plain_use (flag n) rest before fresh h = refl
+
+plain_all : (us before : List Use) → is_fresh before us ≡ true → ArePlain (before ++ us) → are_plain us ≡ true
 plain_all [] before fresh h = refl
 plain_all (u ∷ rest) before fresh h =
-    let f = known_finds u.name (and_first _ _ fresh) in
-    let unused : has_use u.name before ≡ false = not_true _ (and_first _ _ (and_second _ _ fresh)) in
-    both_true (is_plain u.value) (are_plain rest) (h u.name u.value f (skipped u.name before (u ∷ rest) unused ∙ value_here u rest))
+    both_true (is_plain (text_of u)) (are_plain rest) (plain_use u rest before fresh h)
     (plain_all rest (before ++ u ∷ []) (and_second _ _ (and_second _ _ fresh)) (λ n v g e. h n v g (ap (value_of n) (sym (append_assoc before (u ∷ []) rest)) ∙ e)))
 
 chosen : (b : Bool) (n m : ℕ) → (if b then Some n else None) ≡ Some m → b ≡ true
@@ -74,10 +183,10 @@ record Two (a b : Option ℕ) : Type 0 where
   is_x : a ≡ Some x
   is_y : b ≡ Some y
 
-two : (a b : Option ℕ) (o : Order) → run_from a b ≡ Some o → Two a b
-two (Some x) (Some y) o e = record { x = x; y = y; is_x = refl; is_y = refl }
-two None b o e = cc
-two (Some x) None o e = cc
+two : (k : Bool) (a b : Option ℕ) (o : Order) → run_from k a b ≡ Some o → Two a b
+two k (Some x) (Some y) o e = record { x = x; y = y; is_x = refl; is_y = refl }
+two k None b o e = cc
+two k (Some x) None o e = cc
 
 record Four (a b c d : Option ℕ) : Type 0 where
   first : Two a b
@@ -96,11 +205,11 @@ record Plains (m j w q : Option Text) : Type 0 where
   workers : (v : Text) → w ≡ Some v → is_plain v ≡ true
   queue : (v : Text) → q ≡ Some v → is_plain v ≡ true
 
-plains : (m j w q : Option Text) (o : Order) → order_from m j (number_or 4 1 16 w) (number_or 8 1 64 q) ≡ Some o → Plains m j w q
-plains None None w q o e =
-    let t = two (number_or 4 1 16 w) (number_or 8 1 64 q) o e in
+plains : (m j : Option Text) (k : Bool) (w q : Option Text) (o : Order) → order_from m j k (number_or 4 1 16 w) (number_or 8 1 64 q) ≡ Some o → Plains m j w q
+plains None None k w q o e =
+    let t = two k (number_or 4 1 16 w) (number_or 8 1 64 q) o e in
     record { make = λ v h. cc; jobs = λ v h. cc; workers = plain_or 4 1 16 t.x w t.is_x; queue = plain_or 8 1 64 t.y q t.is_y }
-plains (Some m) (Some j) w q o e =
+plains (Some m) (Some j) false w q o e =
     let t = four (number_in 0 4294967295 m) (number_in 1 2000 j) (number_or 4 1 16 w) (number_or 8 1 64 q) o e in
     record {
       make = plain_or 0 0 4294967295 t.first.x (Some m) t.first.is_x;
@@ -108,14 +217,15 @@ plains (Some m) (Some j) w q o e =
       workers = plain_or 4 1 16 t.second.x w t.second.is_x;
       queue = plain_or 8 1 64 t.second.y q t.second.is_y;
     }
-plains None (Some j) w q o e = cc
-plains (Some m) None w q o e = cc
+plains (Some m) (Some j) true w q o e = cc
+plains None (Some j) k w q o e = cc
+plains (Some m) None k w q o e = cc
 
 order_plain : (us : List Use) (o : Order) → order_of us ≡ Some o → (n v : Text) → Finds n → value_of n us ≡ Some v → is_plain v ≡ true
 order_plain us o e n v f h = go (bytes_eq (codes "workers") n) (bytes_eq (codes "queue") n) (bytes_eq (codes "make") n) (bytes_eq (codes "jobs") n) refl refl refl refl
   where
     p : Plains (value_of (codes "make") us) (value_of (codes "jobs") us) (value_of (codes "workers") us) (value_of (codes "queue") us)
-    p = plains _ _ _ _ o e
+    p = plains _ _ (has_flag (codes "accounts") us) _ _ o e
 
     at : (m : Text) → bytes_eq m n ≡ true → value_of m us ≡ Some v
     at m s = ap (λ k. value_of k us) ((bytes_eq-Decides m n).0 s) ∙ h
@@ -125,16 +235,16 @@ order_plain us o e n v f h = go (bytes_eq (codes "workers") n) (bytes_eq (codes 
     go false true c d ea eb ec ed = p.queue v (at (codes "queue") eb)
     go false false true d ea eb ec ed = p.make v (at (codes "make") ec)
     go false false false true ea eb ec ed = p.jobs v (at (codes "jobs") ed)
-    go false false false false ea eb ec ed = let bad : false ≡ true = rw (ea, eb, ec, ed) at f.is_known in cc
+    go false false false false ea eb ec ed = let bad : false ≡ true = rw (ea, eb, ec, ed) at f.is_option in cc
 
-no_dashes_one : (n v : Text) (b : Bool) (rest : List Use) → Finds n → is_plain v ≡ true → has_dashes (words_of rest) ≡ false
-    → has_dashes (words_of (record { name = n; value = v; is_joined = b } ∷ rest)) ≡ false
-no_dashes_one n v true rest f plain rec = rw (not_dashes (dashed (n ++ 61 ∷ v)) n (Some v) (f.joined v)) rec
-no_dashes_one n v false rest f plain rec = rw (not_dashes (dashed n) n None f.apart, (plain_word_is v plain).dashes) rec
+no_dashes_one : (u : Use) (rest : List Use) → is_known u ≡ true → is_plain (text_of u) ≡ true → has_dashes (words_of rest) ≡ false → has_dashes (words_of (u ∷ rest)) ≡ false
+no_dashes_one (joined n v) rest known plain rec = rw (not_dashes (dashed (n ++ 61 ∷ v)) n (Some v) ((known_finds n known).joined v)) rec
+no_dashes_one (apart n v) rest known plain rec = rw (not_dashes (dashed n) n None (known_finds n known).apart, (plain_word_is v plain).dashes) rec
+no_dashes_one (flag n) rest known plain rec = rw (not_dashes (dashed n) n None (known_flag n known).alone) rec
 
 no_dashes : (us before : List Use) → is_fresh before us ≡ true → are_plain us ≡ true → has_dashes (words_of us) ≡ false
 no_dashes [] before fresh plain = refl
-no_dashes (u ∷ rest) before fresh plain = no_dashes_one u.name u.value u.is_joined rest (known_finds u.name (and_first _ _ fresh)) (and_first _ _ plain)
+no_dashes (u ∷ rest) before fresh plain = no_dashes_one u rest (and_first _ _ fresh) (and_first _ _ plain)
     (no_dashes rest (before ++ u ∷ []) (and_second _ _ (and_second _ _ fresh)) (and_second _ _ plain))
 
 pub record Agrees (words : List Text) : Type 0 where
@@ -153,20 +263,26 @@ order_agrees words o h =
 abbrev pub given : List Text → Text → Option Text
 given words name = first_of name (matches_of monitor_app words)
 
+abbrev pub flag_given : List Text → Bool
+flag_given words = is_true (one_of (codes "accounts") (matches_of monitor_app words))
+
 abbrev pub order_given : List Text → Option Order
-order_given words = order_from (given words (codes "make")) (given words (codes "jobs"))
+order_given words = order_from (given words (codes "make")) (given words (codes "jobs")) (flag_given words)
     (number_or 4 1 16 (given words (codes "workers"))) (number_or 8 1 64 (given words (codes "queue")))
 
-order_by_rows : (words : List Text) (us : List Use) → matches_of monitor_app words ≡ map row_of us → order_given words ≡ order_of us
-order_by_rows words us e =
-    let is : (n : Text) → given words n ≡ value_of n us = λ n. ap (first_of n) e ∙ first_is_value n us in
-    rw (is (codes "make"), is (codes "jobs"), is (codes "workers"), is (codes "queue")) refl
+order_by_rows : (words : List Text) (us : List Use) → are_known us ≡ true → matches_of monitor_app words ≡ with_default (map row_of us) accounts → order_given words ≡ order_of us
+order_by_rows words us known e =
+    let is : (n : Text) → Finds n → bytes_eq (codes "accounts") n ≡ false → given words n ≡ value_of n us =
+    λ n f other. ap (first_of n) e ∙ first_past_default n (map row_of us) other ∙ first_is_text n us ∙ sym (value_is_text n us f known) in
+    let flagged : flag_given words ≡ has_flag (codes "accounts") us =
+    ap (λ rows. is_true (one_of (codes "accounts") rows)) e ∙ ap is_true (flag_by_uses us known) ∙ flag_reads (has_flag (codes "accounts") us) in
+    rw (is (codes "make") finds_make refl, is (codes "jobs") finds_jobs refl, is (codes "workers") finds_workers refl, is (codes "queue") finds_queue refl, flagged) refl
 
 pub order_is_given : (words : List Text) (o : Order) → IsOrder words o → order_given words ≡ Some o
 order_is_given words o h =
     let fresh = fresh_by h.uses h.known h.once in
     let plain = plain_all h.uses [] fresh (order_plain h.uses o h.says) in
-    order_by_rows words h.uses (ap (matches_of monitor_app) h.spelt ∙ (spelt_is_taken h.uses fresh plain).rows) ∙ h.says
+    order_by_rows words h.uses h.known (ap (matches_of monitor_app) h.spelt ∙ (spelt_is_taken h.uses fresh plain).rows) ∙ h.says
 
 pub given_is_order : (words : List Text) (o : Order) → has_dashes words ≡ false → fault_of monitor_app words ≡ [] → order_given words ≡ Some o → IsOrder words o
 given_is_order words o d e g =
@@ -176,15 +292,35 @@ given_is_order words o d e g =
       spelt = r.spelt;
       known = fresh_is_known r.uses r.fresh;
       once = fresh_is_once r.uses r.fresh;
-      says = sym (order_by_rows words r.uses r.rows) ∙ g;
+      says = sym (order_by_rows words r.uses (fresh_is_known r.uses r.fresh) r.rows) ∙ g;
     }
 
-pub assembled : (words : List Text) (m j w q : Option Text) (workers queue : Option ℕ) (r : Option Order)
-    → m ≡ given words (codes "make") → j ≡ given words (codes "jobs") → w ≡ given words (codes "workers") → q ≡ given words (codes "queue")
-    → workers ≡ number_or 4 1 16 w → queue ≡ number_or 8 1 64 q → r ≡ order_from m j workers queue → r ≡ order_given words
-assembled words m j w q workers queue r em ej ew eq eworkers equeue e =
-    e ∙ ap₂ (λ a b. order_from a b workers queue) em ej
-    ∙ ap₂ (order_from (given words (codes "make")) (given words (codes "jobs"))) (eworkers ∙ ap (number_or 4 1 16) ew) (equeue ∙ ap (number_or 8 1 64) eq)
+pub assembled : (words : List Text) (m j w q : Option Text) (k : Bool) (workers queue : Option ℕ) (r : Option Order)
+    → m ≡ given words (codes "make") → j ≡ given words (codes "jobs") → w ≡ given words (codes "workers") → q ≡ given words (codes "queue") → k ≡ flag_given words
+    → workers ≡ number_or 4 1 16 w → queue ≡ number_or 8 1 64 q → r ≡ order_from m j k workers queue → r ≡ order_given words
+assembled words m j w q k workers queue r em ej ew eq ek eworkers equeue e =
+    e ∙ ap₂ (λ a b. order_from a b k workers queue) em ej
+    ∙ ap (λ a. order_from (given words (codes "make")) (given words (codes "jobs")) a workers queue) ek
+    ∙ ap₂ (order_from (given words (codes "make")) (given words (codes "jobs")) (flag_given words)) (eworkers ∙ ap (number_or 4 1 16) ew) (equeue ∙ ap (number_or 8 1 64) eq)
+
+-- what `get_flag` answers
+pub flag_is : (f : Found) (words : List Text) (answer : Bool) → has_dashes words ≡ false → fault_of monitor_app words ≡ [] → rows_of f ≡ matches_of monitor_app words
+    → (one_text f (codes "accounts") ≡ Some (codes "true") → answer ≡ true) → (one_text f (codes "accounts") ≡ Some (codes "false") → answer ≡ false)
+    → answer ≡ flag_given words
+flag_is f words answer d passes rows used unused = go (has_flag (codes "accounts") r.uses) refl
+  where
+    r : IsRead words
+    r = taken_is_read words d passes
+
+    given_so : one_of (codes "accounts") (matches_of monitor_app words) ≡ Some (word_of (has_flag (codes "accounts") r.uses))
+    given_so = ap (one_of (codes "accounts")) r.rows ∙ flag_by_uses r.uses (fresh_is_known r.uses r.fresh)
+
+    text : one_text f (codes "accounts") ≡ Some (word_of (has_flag (codes "accounts") r.uses))
+    text = one_text-rows f (codes "accounts") ∙ ap (one_of (codes "accounts")) rows ∙ given_so
+
+    go : (b : Bool) → has_flag (codes "accounts") r.uses ≡ b → answer ≡ flag_given words
+    go true e = used (text ∙ ap (λ (b : Bool). Some (word_of b)) e) ∙ sym (ap is_true (given_so ∙ ap (λ (b : Bool). Some (word_of b)) e))
+    go false e = unused (text ∙ ap (λ (b : Bool). Some (word_of b)) e) ∙ sym (ap is_true (given_so ∙ ap (λ (b : Bool). Some (word_of b)) e))
 
 pub text_given : (f : Found) (words : List Text) (n : Text) → rows_of f ≡ matches_of monitor_app words → first_value f n ≡ given words n
 text_given f words n e = first_value-rows f n ∙ ap (first_of n) e

@@ -9,8 +9,8 @@ use Rattle.clap.specs.declared.parser.matches.ValueSource.TheVariants.{CommandLi
 use Rattle.clap.specs.Walk.{with_values, without, walk_from, Held, Row, Rule, Text, Walk, Waiting, idle, option, arg_by_long, arg_by_id, walked, bundle_met, settled, reacted, used, has_row}
 use Rattle.clap.specs.Faults.{turn_fault, flags_fault, use_fault, settle_fault, is_simple_and_free}
 use Rattle.clap.specs.Simple.{Shape, built, is_simple, filled}
-use Rattle.command_words.specs.Command.{monitor_app, option_rule}
-use Rattle.command_words.specs.Form.{dashed, is_known}
+use Rattle.command_words.specs.Command.{flag_rule, monitor_app, option_rule}
+use Rattle.command_words.specs.Form.{dashed, flags, is_among, options}
 use Rattle.std.specs.Prelude.{length, slice_get}
 use Rattle.clap.specs.Walk.{positional, plain, short_word}
 use Rattle.clap.specs.Faults.{step_fault}
@@ -32,24 +32,43 @@ rule name = filled (option_rule name)
 pub same : (a b : Text) → bytes_eq a b ≡ true → a ≡ b
 same a b h = (bytes_eq-Decides a b).0 h
 
+-- the rule of a flag as clap builds it
+abbrev pub flag : Text → Rule
+flag name = filled (flag_rule name)
+
 pub record Finds (name : Text) : Type 0 where
   pub long : arg_by_long top.rules name ≡ Some (rule name)
   pub id : arg_by_id top.rules name ≡ Some (rule name)
-  pub is_known : is_known name ≡ true
+  pub is_option : is_among name options ≡ true
+  pub is_no_flag : is_among name flags ≡ false
   pub apart : long_of (dashed name) ≡ Some (name, None)
   pub joined : (v : Text) → long_of (dashed (name ++ 61 ∷ v)) ≡ Some (name, Some v)
 
 pub finds_workers : Finds (codes "workers")
-finds_workers = record { long = refl; id = refl; is_known = refl; apart = refl; joined = λ v. refl }
+finds_workers = record { long = refl; id = refl; is_option = refl; is_no_flag = refl; apart = refl; joined = λ v. refl }
 
 pub finds_queue : Finds (codes "queue")
-finds_queue = record { long = refl; id = refl; is_known = refl; apart = refl; joined = λ v. refl }
+finds_queue = record { long = refl; id = refl; is_option = refl; is_no_flag = refl; apart = refl; joined = λ v. refl }
 
 pub finds_make : Finds (codes "make")
-finds_make = record { long = refl; id = refl; is_known = refl; apart = refl; joined = λ v. refl }
+finds_make = record { long = refl; id = refl; is_option = refl; is_no_flag = refl; apart = refl; joined = λ v. refl }
 
 pub finds_jobs : Finds (codes "jobs")
-finds_jobs = record { long = refl; id = refl; is_known = refl; apart = refl; joined = λ v. refl }
+finds_jobs = record { long = refl; id = refl; is_option = refl; is_no_flag = refl; apart = refl; joined = λ v. refl }
+
+pub record FindsFlag (name : Text) : Type 0 where
+  pub long : arg_by_long top.rules name ≡ Some (flag name)
+  pub is_flag : is_among name flags ≡ true
+  pub is_no_option : is_among name options ≡ false
+  pub alone : long_of (dashed name) ≡ Some (name, None)
+
+pub finds_accounts : FindsFlag (codes "accounts")
+finds_accounts = record { long = refl; is_flag = refl; is_no_option = refl; alone = refl }
+
+pub record FindsNone (name : Text) : Type 0 where
+  pub long : arg_by_long top.rules name ≡ None
+  pub is_no_option : is_among name options ≡ false
+  pub is_no_flag : is_among name flags ≡ false
 
 pub not_dashes : (x n : Text) (v : Option Text) → long_of x ≡ Some (n, v) → bytes_eq x (45 ∷ 45 ∷ []) ≡ false
 not_dashes x n v l = go (bytes_eq x (45 ∷ 45 ∷ [])) refl
@@ -98,6 +117,15 @@ kept name (r ∷ rs) e = go (bytes_eq r.id name) refl e (λ h. kept name rs h)
 pub first_row : (name v : Text) (rows : List Row) → has_row name rows ≡ false → used (rule name) (v ∷ []) rows ≡ rows ++ row name v ∷ []
 first_row name v rows e = ap (with_values name reading.AsWritten CommandLine (v ∷ [])) (kept name rows e) ∙ appended name v rows e
 
+pub first_flag : (name : Text) (rows : List Row) → has_row name rows ≡ false → use_fault false (flag name) [] rows ≡ []
+first_flag name rows e = rw e refl
+
+pub later_flag : (name : Text) (rows : List Row) → has_row name rows ≡ true → use_fault false (flag name) [] rows ≡ kind.ArgumentConflict ∷ []
+later_flag name rows e = rw e refl
+
+pub flag_row : (name : Text) (rows : List Row) → has_row name rows ≡ false → used (flag name) [] rows ≡ rows ++ row name (codes "true") ∷ []
+flag_row name rows e = ap (with_values name reading.AsWritten CommandLine (codes "true" ∷ [])) (kept name rows e) ∙ appended name (codes "true") rows e
+
 pub or_else_nil : (a : Kinds) → or_else a [] ≡ a
 or_else_nil [] = refl
 or_else_nil (k ∷ ks) = refl
@@ -139,6 +167,22 @@ pub apart_after : (n x : Text) (h : Held) → Finds n → long_of x ≡ Some (n,
 unfolding walked
 apart_after n x h f l d = rw (d, l, f.long) refl
 
+pub flag_turn : (n x : Text) (h : Held) → FindsFlag n → long_of x ≡ Some (n, None) → bytes_eq x (45 ∷ 45 ∷ []) ≡ false
+    → turn (walk_from h) x ≡ or_else (settle_fault top.rules false h) (use_fault false (flag n) [] (settled top.rules h).rows)
+flag_turn n x h f l d = rw (d, l, f.long) (or_else_nil _)
+
+pub flag_after : (n x : Text) (h : Held) → FindsFlag n → long_of x ≡ Some (n, None) → bytes_eq x (45 ∷ 45 ∷ []) ≡ false
+    → after (walk_from h) x ≡ walk_from (reacted top.rules (flag n) [] h)
+unfolding walked
+flag_after n x h f l d = rw (d, l, f.long) refl
+
+-- a flag takes no value
+pub flag_joined_turn : (n v x : Text) (h : Held) (waiting : Waiting) → FindsFlag n → long_of x ≡ Some (n, Some v) → bytes_eq x (45 ∷ 45 ∷ []) ≡ false
+    → turn (record (walk_from h) { waiting = waiting }) x ≡ [] → ⊥
+flag_joined_turn n v x h idle f l d e = let bad : kind.TooManyValues ∷ [] ≡ [] = rw (d, l, f.long) at e in cc
+flag_joined_turn n v x h (option m) f l d e = let bad : kind.TooManyValues ∷ [] ≡ [] = rw (d, l, f.long) at e in cc
+flag_joined_turn n v x h positional f l d e = let bad : kind.TooManyValues ∷ [] ≡ [] = rw (d, l, f.long) at e in cc
+
 pub unknown_turn : (n x : Text) (v : Option Text) (h : Held) (waiting : Waiting) → arg_by_long top.rules n ≡ None → long_of x ≡ Some (n, v) → bytes_eq x (45 ∷ 45 ∷ []) ≡ false
     → turn (record (walk_from h) { waiting = waiting }) x ≡ [] → ⊥
 unknown_turn n x v h idle f l d e = let bad : kind.UnknownArgument ∷ [] ≡ [] = rw (d, l, f) at e in cc
@@ -173,21 +217,26 @@ stray_turn x rows p l d e = go (short_of x) refl
         let clear = bundle_plain flags rows p first in
         let bad : kind.UnknownArgument ∷ [] ≡ [] = rw (first, clear) at both in cc
 
-pub finds_or_not : (n : Text) → Finds n ⊎ ((arg_by_long top.rules n ≡ None) × (is_known n ≡ false))
-finds_or_not n = go (bytes_eq (codes "workers") n) (bytes_eq (codes "queue") n) (bytes_eq (codes "make") n) (bytes_eq (codes "jobs") n) refl refl refl refl
+pub finds_or_not : (n : Text) → Finds n ⊎ FindsFlag n ⊎ FindsNone n
+finds_or_not n = go (bytes_eq (codes "workers") n) (bytes_eq (codes "queue") n) (bytes_eq (codes "make") n) (bytes_eq (codes "jobs") n) (bytes_eq (codes "accounts") n) refl refl refl refl refl
   where
-    go : (a b c d : Bool) → bytes_eq (codes "workers") n ≡ a → bytes_eq (codes "queue") n ≡ b → bytes_eq (codes "make") n ≡ c → bytes_eq (codes "jobs") n ≡ d
-        → Finds n ⊎ ((arg_by_long top.rules n ≡ None) × (is_known n ≡ false))
-    go true b c d ea eb ec ed = inl (subst Finds (same _ _ ea) finds_workers)
-    go false true c d ea eb ec ed = inl (subst Finds (same _ _ eb) finds_queue)
-    go false false true d ea eb ec ed = inl (subst Finds (same _ _ ec) finds_make)
-    go false false false true ea eb ec ed = inl (subst Finds (same _ _ ed) finds_jobs)
-    go false false false false ea eb ec ed = inr (rw (ea, eb, ec, ed) refl, rw (ea, eb, ec, ed) refl)
+    go : (a b c d k : Bool) → bytes_eq (codes "workers") n ≡ a → bytes_eq (codes "queue") n ≡ b → bytes_eq (codes "make") n ≡ c → bytes_eq (codes "jobs") n ≡ d → bytes_eq (codes "accounts") n ≡ k
+        → Finds n ⊎ FindsFlag n ⊎ FindsNone n
+    go true b c d k ea eb ec ed ek = inl (subst Finds (same _ _ ea) finds_workers)
+    go false true c d k ea eb ec ed ek = inl (subst Finds (same _ _ eb) finds_queue)
+    go false false true d k ea eb ec ed ek = inl (subst Finds (same _ _ ec) finds_make)
+    go false false false true k ea eb ec ed ek = inl (subst Finds (same _ _ ed) finds_jobs)
+    go false false false false true ea eb ec ed ek = inr (inl (subst FindsFlag (same _ _ ek) finds_accounts))
+    go false false false false false ea eb ec ed ek = inr (inr (record { long = rw (ea, eb, ec, ed, ek) refl; is_no_option = rw (ea, eb, ec, ed) refl; is_no_flag = rw ek refl }))
 
 pub waiting_long : (n m x : Text) (rows : List Row) → Finds n → Finds m → (v : Option Text) → bytes_eq x (45 ∷ 45 ∷ []) ≡ false → long_of x ≡ Some (m, v)
     → turn (waits_at n (holds rows (Some (n, [])))) x ≡ [] → ⊥
 waiting_long n m x rows f g None d l e = let bad : kind.InvalidValue ∷ [] ≡ [] = rw (d, l, g.long, f.id) at e in cc
 waiting_long n m x rows f g (Some v) d l e = let bad : kind.InvalidValue ∷ [] ≡ [] = rw (d, l, g.long, f.id) at e in cc
+
+pub waiting_flag : (n m x : Text) (rows : List Row) → Finds n → FindsFlag m → bytes_eq x (45 ∷ 45 ∷ []) ≡ false → long_of x ≡ Some (m, None)
+    → turn (waits_at n (holds rows (Some (n, [])))) x ≡ [] → ⊥
+waiting_flag n m x rows f g d l e = let bad : kind.InvalidValue ∷ [] ≡ [] = rw (d, l, g.long, f.id) at e in cc
 
 pub plain_turn : (n x : Text) (rows : List Row) → Finds n → bytes_eq x (45 ∷ 45 ∷ []) ≡ false → long_of x ≡ None → short_of x ≡ None
     → turn (waits_at n (holds rows (Some (n, [])))) x ≡ []
@@ -222,7 +271,13 @@ value_turn n x rows f d e = go (long_of x) refl
     go : (o : Option (Text × Option Text)) → long_of x ≡ o
         → after (waits_at n (holds rows (Some (n, [])))) x ≡ walk_from (holds rows (Some (n, x ∷ [])))
     go None l = short l (short_of x) refl
-    go (Some (m, v)) l = elim (finds_or_not m) [
-      | inl g ↦ absurd (waiting_long n m x rows f g v d l e)
-      | inr other ↦ absurd (unknown_turn m x v (holds rows (Some (n, []))) (option n) other.0 l d e)
+    go (Some (m, None)) l = elim (finds_or_not m) [
+      | inl g ↦ absurd (waiting_long n m x rows f g None d l e)
+      | inr (inl g) ↦ absurd (waiting_flag n m x rows f g d l e)
+      | inr (inr other) ↦ absurd (unknown_turn m x None (holds rows (Some (n, []))) (option n) other.long l d e)
+    ]
+    go (Some (m, Some v)) l = elim (finds_or_not m) [
+      | inl g ↦ absurd (waiting_long n m x rows f g (Some v) d l e)
+      | inr (inl g) ↦ absurd (flag_joined_turn m v x (holds rows (Some (n, []))) (option n) g l d e)
+      | inr (inr other) ↦ absurd (unknown_turn m x (Some v) (holds rows (Some (n, []))) (option n) other.long l d e)
     ]

@@ -16,12 +16,19 @@ use Rattle.clap.specs.Simple.{entered}
 use Rattle.clap.proofs.WalkLemmas.{list_any-map}
 use Rattle.clap.specs.declared.error.kind.ErrorKind.TheVariants as kind
 use Rattle.std.proofs.lemmas.List.{map-append}
-use Rattle.command_words.specs.Form.{has_dashes, Use, dashed, is_known, words_of}
+use Rattle.command_words.specs.Form.{has_dashes, Use, apart, joined, flag, dashed, flags, is_among, is_known, name_of, options, words_of}
 use Rattle.command_words.proofs.Fresh.{and_first, and_second, not_true, or_first, or_second, is_fresh, has_use}
-use Rattle.command_words.proofs.Walked.{top, rule, row, turn, after, holds, waits_at, Finds, finds_or_not, first_none, second_none, not_dashes, joined_turn, joined_after, apart_turn, apart_after, unknown_turn, stray_turn, value_turn, plain_turn, plain_after, first_use, later_use, first_row, or_else_nil, same}
+use Rattle.command_words.proofs.Walked as walked
+use Rattle.command_words.proofs.Walked.{top, rule, row, FindsFlag, finds_accounts, first_flag, later_flag, flag_row, flag_turn, flag_after, flag_joined_turn, turn, after, holds, waits_at, Finds, finds_or_not, first_none, second_none, not_dashes, joined_turn, joined_after, apart_turn, apart_after, unknown_turn, stray_turn, value_turn, plain_turn, plain_after, first_use, later_use, first_row, or_else_nil, same}
+
+-- the value of an option; that of a flag is `true`
+abbrev pub text_of : Use → Text
+text_of (apart n v) = v
+text_of (joined n v) = v
+text_of (flag n) = codes "true"
 
 abbrev pub row_of : Use → Row
-row_of u = row u.name u.value
+row_of u = row (name_of u) (text_of u)
 
 abbrev pub rest_fault : Walk → List Text → Kinds
 rest_fault w xs = or_else (walk_fault top [] w xs) (settle_fault top.rules false (fold after w xs).held)
@@ -64,11 +71,13 @@ clean (x ∷ xs) rows p d e = go (long_of x) refl
     go None l = absurd (stray_turn x rows p l plain_d at)
     go (Some (n, None)) l = elim (finds_or_not n) [
       | inl f ↦ sym (apart_turn n x (holds rows p) f l plain_d) ∙ at
-      | inr other ↦ absurd (unknown_turn n x None (holds rows p) idle other.0 l plain_d at)
+      | inr (inl f) ↦ first_none (settle_fault top.rules false (holds rows p)) (use_fault false (walked.flag n) [] (settled top.rules (holds rows p)).rows) (sym (flag_turn n x (holds rows p) f l plain_d) ∙ at)
+      | inr (inr other) ↦ absurd (unknown_turn n x None (holds rows p) idle other.long l plain_d at)
     ]
     go (Some (n, Some v)) l = elim (finds_or_not n) [
       | inl f ↦ first_none (settle_fault top.rules false (holds rows p)) (use_fault false (rule n) (v ∷ []) (settled top.rules (holds rows p)).rows) (sym (joined_turn n v x (holds rows p) f l plain_d) ∙ at)
-      | inr other ↦ absurd (unknown_turn n x (Some v) (holds rows p) idle other.0 l plain_d at)
+      | inr (inl f) ↦ absurd (flag_joined_turn n v x (holds rows p) idle f l plain_d at)
+      | inr (inr other) ↦ absurd (unknown_turn n x (Some v) (holds rows p) idle other.long l plain_d at)
     ]
 
 -- ---- the words of a use
@@ -145,14 +154,25 @@ default_none rows a e = elim (has_row a.id rows) as (λ b. (if b || is_empty a.d
   | false ↦ rw e refl
 ]
 
-pub four_faults : (a b c d : Rule) (rows : List Row) → a.defaults ≡ [] → b.defaults ≡ [] → c.defaults ≡ [] → d.defaults ≡ []
-    → defaults_fault rows (a ∷ b ∷ c ∷ d ∷ []) ≡ []
+-- the flag's rule
+abbrev pub accounts : Rule
+accounts = walked.flag (codes "accounts")
+
+pub default_flag : (rows : List Row) → default_fault rows accounts ≡ []
+default_flag rows = elim (has_row accounts.id rows) as (λ b. (if b || is_empty accounts.defaults then [] else given_default_fault accounts accounts.defaults) ≡ []) [
+  | true ↦ refl
+  | false ↦ refl
+]
+
+pub all_faults : (a b c d : Rule) (rows : List Row) → a.defaults ≡ [] → b.defaults ≡ [] → c.defaults ≡ [] → d.defaults ≡ []
+    → defaults_fault rows (a ∷ b ∷ c ∷ d ∷ accounts ∷ []) ≡ []
 unfolding defaults_fault
-four_faults a b c d rows ea eb ec ed = rw (
+all_faults a b c d rows ea eb ec ed = rw (
   default_none rows a ea,
   default_none (with_default rows a) b eb,
   default_none (with_default (with_default rows a) b) c ec,
   default_none (with_default (with_default (with_default rows a) b) c) d ed,
+  default_flag (with_default (with_default (with_default (with_default rows a) b) c) d),
 ) refl
 
 pub no_check : (rows : List Row) (has : Bool) → check_fault top rows has ≡ []
@@ -172,10 +192,10 @@ fault_is words =
     let rows = (settled top.rules end.held).rows in
     five (walk_fault top [] (walk_from nothing_held) words) (entered_fault (built monitor_app) end.stopped) (settle_fault top.rules false end.held)
     (defaults_fault rows top.rules) (check_fault top (finished top.rules end.held) (is_some (entered (built monitor_app) end.stopped)))
-    (no_entry end.stopped) (four_faults (rule (codes "workers")) (rule (codes "queue")) (rule (codes "make")) (rule (codes "jobs")) rows refl refl refl refl) (no_check (finished top.rules end.held) (is_some (entered (built monitor_app) end.stopped)))
+    (no_entry end.stopped) (all_faults (rule (codes "workers")) (rule (codes "queue")) (rule (codes "make")) (rule (codes "jobs")) rows refl refl refl refl) (no_check (finished top.rules end.held) (is_some (entered (built monitor_app) end.stopped)))
 
-pub matches_is : (words : List Text) → matches_of monitor_app words ≡ rest_rows (walk_from nothing_held) words
-matches_is words = four_defaults (rule (codes "workers")) (rule (codes "queue")) (rule (codes "make")) (rule (codes "jobs")) (rest_rows (walk_from nothing_held) words) refl refl refl refl
+pub matches_is : (words : List Text) → matches_of monitor_app words ≡ with_default (rest_rows (walk_from nothing_held) words) accounts
+matches_is words = ap (λ r. with_default r accounts) (four_defaults (rule (codes "workers")) (rule (codes "queue")) (rule (codes "make")) (rule (codes "jobs")) (rest_rows (walk_from nothing_held) words) refl refl refl refl)
 
 -- ---- what clap takes is of the form
 
@@ -195,13 +215,19 @@ passes_once n v rows e = go (has_row n rows) refl
     go false h = h
     go true h = let bad : kind.ArgumentConflict ∷ [] ≡ [] = sym (later_use n v rows h) ∙ e in cc
 
-pub more_rows : (n v : Text) (b : Bool) (rows : List Row) (us : List Use) → rows ≡ map row_of us → has_row n rows ≡ false
-    → used (rule n) (v ∷ []) rows ≡ map row_of (us ++ record { name = n; value = v; is_joined = b } ∷ [])
-more_rows n v b rows us e h = first_row n v rows h ∙ ap (λ r. r ++ row n v ∷ []) e ∙ sym (map-append row_of us (record { name = n; value = v; is_joined = b } ∷ []))
+pub flag_once : (n : Text) (rows : List Row) → use_fault false (walked.flag n) [] rows ≡ [] → has_row n rows ≡ false
+flag_once n rows e = go (has_row n rows) refl
+  where
+    go : (b : Bool) → has_row n rows ≡ b → has_row n rows ≡ false
+    go false h = h
+    go true h = let bad : kind.ArgumentConflict ∷ [] ≡ [] = sym (later_flag n rows h) ∙ e in cc
 
-pub fresh_one : (n v : Text) (b : Bool) (us rest : List Use) → is_known n ≡ true → has_use n us ≡ false → is_fresh (us ++ record { name = n; value = v; is_joined = b } ∷ []) rest ≡ true
-    → is_fresh us (record { name = n; value = v; is_joined = b } ∷ rest) ≡ true
-fresh_one n v b us rest k h r = rw (k, h, r) refl
+pub more_rows : (u : Use) (rows rows' : List Row) (us : List Use) → rows ≡ map row_of us → rows' ≡ rows ++ row_of u ∷ [] → rows' ≡ map row_of (us ++ u ∷ [])
+more_rows u rows rows' us e h = h ∙ ap (λ r. r ++ row_of u ∷ []) e ∙ sym (map-append row_of us (u ∷ []))
+
+pub fresh_one : (u : Use) (us rest : List Use) → is_known u ≡ true → has_use (name_of u) us ≡ false → is_fresh (us ++ u ∷ []) rest ≡ true
+    → is_fresh us (u ∷ rest) ≡ true
+fresh_one u us rest k h r = rw (k, h, r) refl
 
 abbrev Reads : List Text → Type 0
 Reads xs = (rows : List Row) (p : Option (Text × List Text)) (us : List Use) → settled_rows top.rules p rows ≡ map row_of us → has_dashes xs ≡ false
@@ -209,24 +235,24 @@ Reads xs = (rows : List Row) (p : Option (Text × List Text)) (us : List Use) �
 
 pub joined_case : (n v x : Text) (xs : List Text) → Finds n → long_of x ≡ Some (n, Some v) → Reads xs → Reads (x ∷ xs)
 joined_case n v x xs f l rec rows p us settles d e =
-    let u : Use = record { name = n; value = v; is_joined = true } in
+    let u : Use = joined n v in
     let now = settled_rows top.rules p rows in
     let nd = not_dashes x n (Some v) l in
     let peeled = peel (walk_from (holds rows p)) x xs e in
     let t = sym (joined_turn n v x (holds rows p) f l nd) ∙ peeled.0 in
     let fresh : has_row n now ≡ false = passes_once n v now (second_none (settle_fault top.rules false (holds rows p)) (use_fault false (rule n) (v ∷ []) now) t) in
     let aft : after (walk_from (holds rows p)) x ≡ walk_from (holds (used (rule n) (v ∷ []) now) None) = joined_after n v x (holds rows p) f l nd in
-    let r = rec (used (rule n) (v ∷ []) now) None (us ++ u ∷ []) (more_rows n v true now us settles fresh) (or_second _ _ d) (subst (λ w. rest_fault w xs ≡ []) aft peeled.1) in
+    let r = rec (used (rule n) (v ∷ []) now) None (us ++ u ∷ []) (more_rows u now _ us settles (first_row n v now fresh)) (or_second _ _ d) (subst (λ w. rest_fault w xs ≡ []) aft peeled.1) in
     record {
       uses = u ∷ r.uses;
       spelt = ap₂ (λ (a : Text) (b : List Text). a ∷ b) (long_parts x n (Some v) l) r.spelt;
-      fresh = fresh_one n v true us r.uses f.is_known (use_row n us ∙ ap (has_row n) (sym settles) ∙ fresh) r.fresh;
+      fresh = fresh_one u us r.uses f.is_option (use_row n us ∙ ap (has_row n) (sym settles) ∙ fresh) r.fresh;
       rows = ap (λ w. rest_rows w xs) aft ∙ r.rows ∙ ap (map row_of) (append_assoc us (u ∷ []) r.uses);
     }
 
 pub apart_case : (n x y : Text) (ys : List Text) → Finds n → long_of x ≡ Some (n, None) → Reads ys → Reads (x ∷ y ∷ ys)
 apart_case n x y ys f l rec rows p us settles d e =
-    let u : Use = record { name = n; value = y; is_joined = false } in
+    let u : Use = apart n y in
     let now = settled_rows top.rules p rows in
     let nd = not_dashes x n None l in
     let peeled = peel (walk_from (holds rows p)) x (y ∷ ys) e in
@@ -238,13 +264,30 @@ apart_case n x y ys f l rec rows p us settles d e =
     let more : rest_fault (walk_from (holds now (Some (n, y ∷ [])))) ys ≡ [] = subst (λ w. rest_fault w ys ≡ []) aft2 next.1 in
     let settle : settle_fault top.rules false (holds now (Some (n, y ∷ []))) ≡ [] = clean ys now (Some (n, y ∷ [])) d3 more in
     let fresh : has_row n now ≡ false = passes_once n y now (rw f.id at settle) in
-    let settles2 : settled_rows top.rules (Some (n, y ∷ [])) now ≡ map row_of (us ++ u ∷ []) = rw f.id (more_rows n y false now us settles fresh) in
+    let settles2 : settled_rows top.rules (Some (n, y ∷ [])) now ≡ map row_of (us ++ u ∷ []) = rw f.id (more_rows u now _ us settles (first_row n y now fresh)) in
     let r = rec now (Some (n, y ∷ [])) (us ++ u ∷ []) settles2 d3 more in
     record {
       uses = u ∷ r.uses;
       spelt = ap₂ (λ (a : Text) (b : List Text). a ∷ y ∷ b) (long_parts x n None l) r.spelt;
-      fresh = fresh_one n y false us r.uses f.is_known (use_row n us ∙ ap (has_row n) (sym settles) ∙ fresh) r.fresh;
+      fresh = fresh_one u us r.uses f.is_option (use_row n us ∙ ap (has_row n) (sym settles) ∙ fresh) r.fresh;
       rows = ap (λ w. rest_rows w (y ∷ ys)) aft ∙ ap (λ w. rest_rows w ys) aft2 ∙ r.rows ∙ ap (map row_of) (append_assoc us (u ∷ []) r.uses);
+    }
+
+pub flag_case : (n x : Text) (xs : List Text) → FindsFlag n → long_of x ≡ Some (n, None) → Reads xs → Reads (x ∷ xs)
+flag_case n x xs f l rec rows p us settles d e =
+    let u : Use = flag n in
+    let now = settled_rows top.rules p rows in
+    let nd = not_dashes x n None l in
+    let peeled = peel (walk_from (holds rows p)) x xs e in
+    let t = sym (flag_turn n x (holds rows p) f l nd) ∙ peeled.0 in
+    let fresh : has_row n now ≡ false = flag_once n now (second_none (settle_fault top.rules false (holds rows p)) (use_fault false (walked.flag n) [] now) t) in
+    let aft : after (walk_from (holds rows p)) x ≡ walk_from (holds (used (walked.flag n) [] now) None) = flag_after n x (holds rows p) f l nd in
+    let r = rec (used (walked.flag n) [] now) None (us ++ u ∷ []) (more_rows u now _ us settles (flag_row n now fresh)) (or_second _ _ d) (subst (λ w. rest_fault w xs ≡ []) aft peeled.1) in
+    record {
+      uses = u ∷ r.uses;
+      spelt = ap₂ (λ (a : Text) (b : List Text). a ∷ b) (long_parts x n None l) r.spelt;
+      fresh = fresh_one u us r.uses f.is_flag (use_row n us ∙ ap (has_row n) (sym settles) ∙ fresh) r.fresh;
+      rows = ap (λ w. rest_rows w xs) aft ∙ r.rows ∙ ap (map row_of) (append_assoc us (u ∷ []) r.uses);
     }
 
 -- an option with no value after it
@@ -259,7 +302,7 @@ alone_case n x f l rows p us settles d e =
     cc
 
 pub by_word : (x : Text) (xs : List Text) → Reads xs → ((n : Text) → Finds n → long_of x ≡ Some (n, None) → Reads (x ∷ xs)) → Reads (x ∷ xs)
-by_word x xs rec apart rows p us settles d e = go (long_of x) refl
+by_word x xs rec two_words rows p us settles d e = go (long_of x) refl
   where
     at : turn (walk_from (holds rows p)) x ≡ []
     at = (peel (walk_from (holds rows p)) x xs e).0
@@ -267,12 +310,14 @@ by_word x xs rec apart rows p us settles d e = go (long_of x) refl
     go : (o : Option (Text × Option Text)) → long_of x ≡ o → Read us (x ∷ xs) (walk_from (holds rows p))
     go None l = absurd (stray_turn x rows p l (or_first _ _ d) at)
     go (Some (n, None)) l = elim (finds_or_not n) [
-      | inl f ↦ apart n f l rows p us settles d e
-      | inr other ↦ absurd (unknown_turn n x None (holds rows p) idle other.0 l (or_first _ _ d) at)
+      | inl f ↦ two_words n f l rows p us settles d e
+      | inr (inl f) ↦ flag_case n x xs f l rec rows p us settles d e
+      | inr (inr other) ↦ absurd (unknown_turn n x None (holds rows p) idle other.long l (or_first _ _ d) at)
     ]
     go (Some (n, Some v)) l = elim (finds_or_not n) [
       | inl f ↦ joined_case n v x xs f l rec rows p us settles d e
-      | inr other ↦ absurd (unknown_turn n x (Some v) (holds rows p) idle other.0 l (or_first _ _ d) at)
+      | inr (inl f) ↦ absurd (flag_joined_turn n v x (holds rows p) idle f l (or_first _ _ d) at)
+      | inr (inr other) ↦ absurd (unknown_turn n x (Some v) (holds rows p) idle other.long l (or_first _ _ d) at)
     ]
 
 pub sound : (xs : List Text) → Reads xs
@@ -284,12 +329,12 @@ pub record IsRead (words : List Text) : Type 0 where
   pub uses : List Use
   pub spelt : words ≡ words_of uses
   pub fresh : is_fresh [] uses ≡ true
-  pub rows : matches_of monitor_app words ≡ map row_of uses
+  pub rows : matches_of monitor_app words ≡ with_default (map row_of uses) accounts
 
 pub taken_is_read : (words : List Text) → has_dashes words ≡ false → fault_of monitor_app words ≡ [] → IsRead words
 taken_is_read words d e =
     let r = sound words [] None [] refl d (sym (fault_is words) ∙ e) in
-    record { uses = r.uses; spelt = r.spelt; fresh = r.fresh; rows = matches_is words ∙ r.rows }
+    record { uses = r.uses; spelt = r.spelt; fresh = r.fresh; rows = matches_is words ∙ ap (λ rs. with_default rs accounts) r.rows }
 
 -- ---- what is of the form is taken
 
@@ -298,7 +343,7 @@ abbrev pub is_plain : Text → Bool
 is_plain v = not (is_some (strip_byte 45 v))
 
 abbrev pub are_plain : List Use → Bool
-are_plain us = list_all (λ u. is_plain u.value) us
+are_plain us = list_all (λ u. is_plain (text_of u)) us
 
 pub record IsPlainWord (v : Text) : Type 0 where
   pub long : long_of v ≡ None
@@ -320,19 +365,27 @@ pub record Takes (before uses : List Use) (w : Walk) : Type 0 where
   pub passes : rest_fault w (words_of uses) ≡ []
   pub rows : rest_rows w (words_of uses) ≡ map row_of (before ++ uses)
 
-pub known_finds : (n : Text) → is_known n ≡ true → Finds n
+pub known_finds : (n : Text) → is_among n options ≡ true → Finds n
 known_finds n k = elim (finds_or_not n) [
   | inl f ↦ f
-  | inr other ↦ absurd (let bad : true ≡ false = sym k ∙ other.1 in cc)
+  | inr (inl f) ↦ absurd (let bad : true ≡ false = sym k ∙ f.is_no_option in cc)
+  | inr (inr other) ↦ absurd (let bad : true ≡ false = sym k ∙ other.is_no_option in cc)
+]
+
+pub known_flag : (n : Text) → is_among n flags ≡ true → FindsFlag n
+known_flag n k = elim (finds_or_not n) [
+  | inl f ↦ absurd (let bad : true ≡ false = sym k ∙ f.is_no_flag in cc)
+  | inr (inl f) ↦ f
+  | inr (inr other) ↦ absurd (let bad : true ≡ false = sym k ∙ other.is_no_flag in cc)
 ]
 
 abbrev Completes : List Use → Type 0
 Completes uses = (rows : List Row) (p : Option (Text × List Text)) (us : List Use) → settled_rows top.rules p rows ≡ map row_of us
     → settle_fault top.rules false (holds rows p) ≡ [] → is_fresh us uses ≡ true → are_plain uses ≡ true → Takes us uses (walk_from (holds rows p))
 
-pub one_more : (n v : Text) (b : Bool) (rest : List Use) → Completes rest → Completes (record { name = n; value = v; is_joined = b } ∷ rest)
-one_more n v true rest rec rows p us settles c fresh plain =
-    let u : Use = record { name = n; value = v; is_joined = true } in
+pub one_more : (u : Use) (rest : List Use) → Completes rest → Completes (u ∷ rest)
+one_more (joined n v) rest rec rows p us settles c fresh plain =
+    let u : Use = joined n v in
     let x = dashed (n ++ 61 ∷ v) in
     let w = walk_from (holds rows p) in
     let now = settled_rows top.rules p rows in
@@ -344,13 +397,13 @@ one_more n v true rest rec rows p us settles c fresh plain =
     let aft : after w x ≡ walk_from (holds (used (rule n) (v ∷ []) now) None) = joined_after n v x (holds rows p) f l nd in
     let t : turn w x ≡ [] = joined_turn n v x (holds rows p) f l nd
     ∙ ap (λ k. or_else k (use_fault false (rule n) (v ∷ []) now)) c ∙ first_use n v now none in
-    let r = rec (used (rule n) (v ∷ []) now) None (us ++ u ∷ []) (more_rows n v true now us settles none) refl (and_second _ _ (and_second _ _ fresh)) (and_second _ _ plain) in
+    let r = rec (used (rule n) (v ∷ []) now) None (us ++ u ∷ []) (more_rows u now _ us settles (first_row n v now none)) refl (and_second _ _ (and_second _ _ fresh)) (and_second _ _ plain) in
     record {
       passes = unpeel w x (words_of rest) t (subst (λ w. rest_fault w (words_of rest) ≡ []) (sym aft) r.passes);
       rows = ap (λ w. rest_rows w (words_of rest)) aft ∙ r.rows ∙ ap (map row_of) (append_assoc us (u ∷ []) rest);
     }
-one_more n v false rest rec rows p us settles c fresh plain =
-    let u : Use = record { name = n; value = v; is_joined = false } in
+one_more (apart n v) rest rec rows p us settles c fresh plain =
+    let u : Use = apart n v in
     let x = dashed n in
     let w = walk_from (holds rows p) in
     let now = settled_rows top.rules p rows in
@@ -366,7 +419,7 @@ one_more n v false rest rec rows p us settles c fresh plain =
     let t : turn w x ≡ [] = apart_turn n x (holds rows p) f l nd ∙ c in
     let aft2 : after w1 v ≡ w2 = plain_after n v now f q.dashes q.long q.short in
     let t2 : turn w1 v ≡ [] = plain_turn n v now f q.dashes q.long q.short in
-    let settles2 : settled_rows top.rules (Some (n, v ∷ [])) now ≡ map row_of (us ++ u ∷ []) = rw f.id (more_rows n v false now us settles none) in
+    let settles2 : settled_rows top.rules (Some (n, v ∷ [])) now ≡ map row_of (us ++ u ∷ []) = rw f.id (more_rows u now _ us settles (first_row n v now none)) in
     let c2 : settle_fault top.rules false (holds now (Some (n, v ∷ []))) ≡ [] = rw f.id (first_use n v now none) in
     let r = rec now (Some (n, v ∷ [])) (us ++ u ∷ []) settles2 c2 (and_second _ _ (and_second _ _ fresh)) (and_second _ _ plain) in
     let tail : rest_fault w1 (v ∷ words_of rest) ≡ [] = unpeel w1 v (words_of rest) t2 (subst (λ w. rest_fault w (words_of rest) ≡ []) (sym aft2) r.passes) in
@@ -374,16 +427,34 @@ one_more n v false rest rec rows p us settles c fresh plain =
       passes = unpeel w x (v ∷ words_of rest) t (subst (λ w. rest_fault w (v ∷ words_of rest) ≡ []) (sym aft) tail);
       rows = ap (λ w. rest_rows w (v ∷ words_of rest)) aft ∙ ap (λ w. rest_rows w (words_of rest)) aft2 ∙ r.rows ∙ ap (map row_of) (append_assoc us (u ∷ []) rest);
     }
+one_more (flag n) rest rec rows p us settles c fresh plain =
+    let u : Use = flag n in
+    let x = dashed n in
+    let w = walk_from (holds rows p) in
+    let now = settled_rows top.rules p rows in
+    let f = known_flag n (and_first _ _ fresh) in
+    let unused : has_use n us ≡ false = not_true _ (and_first _ _ (and_second _ _ fresh)) in
+    let none : has_row n now ≡ false = ap (has_row n) settles ∙ sym (use_row n us) ∙ unused in
+    let l : long_of x ≡ Some (n, None) = f.alone in
+    let nd = not_dashes x n None l in
+    let aft : after w x ≡ walk_from (holds (used (walked.flag n) [] now) None) = flag_after n x (holds rows p) f l nd in
+    let t : turn w x ≡ [] = flag_turn n x (holds rows p) f l nd
+    ∙ ap (λ k. or_else k (use_fault false (walked.flag n) [] now)) c ∙ first_flag n now none in
+    let r = rec (used (walked.flag n) [] now) None (us ++ u ∷ []) (more_rows u now _ us settles (flag_row n now none)) refl (and_second _ _ (and_second _ _ fresh)) (and_second (is_plain (text_of u)) (are_plain rest) plain) in
+    record {
+      passes = unpeel w x (words_of rest) t (subst (λ w. rest_fault w (words_of rest) ≡ []) (sym aft) r.passes);
+      rows = ap (λ w. rest_rows w (words_of rest)) aft ∙ r.rows ∙ ap (map row_of) (append_assoc us (u ∷ []) rest);
+    }
 
 pub complete : (uses : List Use) → Completes uses
 complete [] = λ rows p us settles c fresh plain. record { passes = at_end (walk_from (holds rows p)) ∙ c; rows = settles ∙ ap (map row_of) (sym (append-nil us)) }
-complete (u ∷ rest) = one_more u.name u.value u.is_joined rest (complete rest)
+complete (u ∷ rest) = one_more u rest (complete rest)
 
 pub record IsTaken (uses : List Use) : Type 0 where
   pub passes : fault_of monitor_app (words_of uses) ≡ []
-  pub rows : matches_of monitor_app (words_of uses) ≡ map row_of uses
+  pub rows : matches_of monitor_app (words_of uses) ≡ with_default (map row_of uses) accounts
 
 pub spelt_is_taken : (uses : List Use) → is_fresh [] uses ≡ true → are_plain uses ≡ true → IsTaken uses
 spelt_is_taken uses fresh plain =
     let t = complete uses [] None [] refl refl fresh plain in
-    record { passes = fault_is (words_of uses) ∙ t.passes; rows = matches_is (words_of uses) ∙ t.rows }
+    record { passes = fault_is (words_of uses) ∙ t.passes; rows = matches_is (words_of uses) ∙ ap (λ rs. with_default rs accounts) t.rows }

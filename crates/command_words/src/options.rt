@@ -1,7 +1,7 @@
 ghost use Rattle.std.specs.Prelude.{◌≡◌, [], false, IfOk, Err, map, string_bytes};
 ghost use Rattle.clap.specs.Words.{app_of, fault_of, found_of, matches_of, rows_of};
 ghost use Rattle.clap.specs.Walk.{rule_of};
-ghost use Rattle.command_words.specs.Command.{monitor_app, option_rule};
+ghost use Rattle.command_words.specs.Command.{flag_rule, monitor_app, option_rule};
 
 use crate::order::WordsError;
 use clap::error::ErrorKind;
@@ -25,7 +25,7 @@ pub fn matches_of<'a>(alloc: Global, words: &'a [String]) -> Result<ArgMatches<'
     }
 }
 
-/// The command: its four options, with no help and no version of `clap`'s own.
+/// The command: its four options and its flag, with no help and no version of `clap`'s own.
 fn command<'a>(alloc: Global) -> Result<Command<'a>, AllocError>
     ensures { IfOk result (λ c. app_of c ≡ monitor_app) }
 {
@@ -36,7 +36,8 @@ fn command<'a>(alloc: Global) -> Result<Command<'a>, AllocError>
         .arg(option(alloc, "workers"))?
         .arg(option(alloc, "queue"))?
         .arg(option(alloc, "make"))?
-        .arg(option(alloc, "jobs"))
+        .arg(option(alloc, "jobs"))?
+        .arg(flag(alloc, "accounts"))
 }
 
 /// An option that takes a value.
@@ -45,4 +46,12 @@ fn option<'a>(alloc: Global, name: &'a str) -> Arg<'a>
     ensures global { result.global ≡ false }
 {
     Arg::new(alloc, name).long(name).action(ArgAction::Set)
+}
+
+/// A flag, which takes no value.
+fn flag<'a>(alloc: Global, name: &'a str) -> Arg<'a>
+    ensures rule { rule_of result ≡ flag_rule name.entry.now }
+    ensures global { result.global ≡ false }
+{
+    Arg::new(alloc, name).long(name).action(ArgAction::SetTrue)
 }

@@ -16,6 +16,8 @@ pub enum Order {
         workers: u32,
         /// The number of tickets that the queue holds.
         queue: u32,
+        /// Whether the accounts are those of an accounts file, and the closing balances go to one.
+        accounts: bool,
     },
     /// Run a batch that is made.
     Make {
@@ -56,7 +58,8 @@ pub fn read_words(alloc: Global, words: &[String]) -> Result<Order, WordsError>
     let queue = number_or(8, matches.get_str("queue"), 1, 64);
     let make = matches.get_str("make");
     let jobs = matches.get_str("jobs");
-    match order_from(make, jobs, workers, queue) {
+    let accounts = matches.get_flag("accounts");
+    match order_from(make, jobs, accounts, workers, queue) {
         Some(order) => Ok(order),
         None => Err(WordsError::BadWords),
     }
@@ -75,21 +78,26 @@ fn is_dashes(word: &String) -> bool
     word.as_str() == "--"
 }
 
-/// The order of these values. `--make` and `--jobs` stand together or not at all.
+/// The order of these values. `--make` and `--jobs` stand together or not at all, and not beside `--accounts`.
 fn order_from(
     make: Option<&str>,
     jobs: Option<&str>,
+    accounts: bool,
     workers: Option<u32>,
     queue: Option<u32>,
 ) -> Option<Order>
     ensures { result ≡ order_from (option_map (λ s. s.now) make.entry) (option_map (λ s. s.now) jobs.entry)
-        workers queue }
+        accounts workers queue }
 {
     let workers = workers?;
     let queue = queue?;
-    match (make, jobs) {
-        (None, None) => Some(Order::Run { workers, queue }),
-        (Some(make), Some(jobs)) => made(make, jobs, workers, queue),
+    match (make, jobs, accounts) {
+        (None, None, accounts) => Some(Order::Run {
+            workers,
+            queue,
+            accounts,
+        }),
+        (Some(make), Some(jobs), false) => made(make, jobs, workers, queue),
         _ => None,
     }
 }

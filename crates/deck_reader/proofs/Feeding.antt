@@ -1,10 +1,11 @@
 -- A reader that is fed in pieces.
-use Rattle.std.proofs.Common.{◌≡◌, ℕ, ◌+◌, ◌-◌, ◌^◌, ◌<◌, ◌≤◌, ◌==◌, Bool, true, false, ◌||◌, nat_lt, List, [], ◌∷◌, ◌++◌, length, map, None, refl, sym, ap, subst, ◌∙◌, arith, count_by, append_assoc, append-nil, if◌then◌else◌}
+use Rattle.std.proofs.Common.{◌≡◌, ℕ, ◌+◌, ◌-◌, ◌^◌, ◌<◌, ◌≤◌, ◌==◌, Bool, true, false, ◌||◌, nat_lt, List, [], ◌∷◌, ◌++◌, length, map, Option, None, refl, sym, ap, subst, ◌∙◌, arith, count_by, append_assoc, append-nil, if◌then◌else◌}
 use Rattle.std.specs.List.{list_any}
 use Rattle.std.proofs.lemmas.Bool.Decides.{nat_tests}
 use Rattle.std.proofs.lemmas.List.{length-append, length-map, map-append}
 use Rattle.std.proofs.lemmas.List.Sums.{sum_by-append, count_by-le-length}
 use Rattle.std.proofs.lemmas.List.Splits.{length-slice_split}
+use Rattle.deck_reader.specs.declared.batch.Account.{Account}
 use Rattle.deck_reader.specs.declared.reader.Reader.{Reader}
 use Rattle.deck_reader.specs.declared.reading.Reading.{Reading}
 use Rattle.deck_reader.specs.Cards.{cleaned, parts, all_but_last, ended, under_way, unless_empty, cards}
@@ -31,11 +32,11 @@ few_cards : (bytes : List ℕ) → length bytes ≤ 4194304 → length (map clea
 few_cards bytes few = omega (arith, ended-le bytes, length-map (ended bytes) cleaned)
 
 -- the cards with the one that the line feed ended
-pub read_card : (old : Reader) (new : Reading) (taken : List JobView) (input front held : List ℕ) → list_any (λ b. b == 10) front ≡ false → length input ≤ 4194304 → HasRead old taken input → held ≡ old.under_way.items ++ front
-    → ((cards : List (List ℕ)) → length cards < 2 ^ 31 → IsReading (put_back taken old.reading) cards → IsReading (put_back taken new) (cards ++ cleaned held ∷ []))
-    → IsReading (put_back taken new) (map cleaned (ended (input ++ front ++ 10 ∷ [])))
-read_card old new taken input front held none few has holds step =
-    let P : List (List ℕ) → Type 0 = λ cs. IsReading (put_back taken new) cs in
+pub read_card : (given : Option (List Account)) (old : Reader) (new : Reading) (taken : List JobView) (input front held : List ℕ) → list_any (λ b. b == 10) front ≡ false → length input ≤ 4194304 → HasRead given old taken input → held ≡ old.under_way.items ++ front
+    → ((cards : List (List ℕ)) → length cards < 2 ^ 31 → IsReading given (put_back taken old.reading) cards → IsReading given (put_back taken new) (cards ++ cleaned held ∷ []))
+    → IsReading given (put_back taken new) (map cleaned (ended (input ++ front ++ 10 ∷ [])))
+read_card given old new taken input front held none few has holds step =
+    let P : List (List ℕ) → Type 0 = λ cs. IsReading given (put_back taken new) cs in
     let is : map cleaned (ended input) ++ cleaned held ∷ [] ≡ map cleaned (ended (input ++ front ++ 10 ∷ [])) =
     ap (λ (u : List ℕ). map cleaned (ended input) ++ cleaned u ∷ []) holds
     ∙ ap (λ (u : List ℕ). map cleaned (ended input) ++ cleaned (u ++ front) ∷ []) has.under_way_is
@@ -44,22 +45,22 @@ read_card old new taken input front held none few has holds step =
     subst P is (step (map cleaned (ended input)) (few_cards input few) has.read)
 
 -- a line feed ends the card under way
-pub fed_card : (old new : Reader) (taken : List JobView) (input front held : List ℕ) → list_any (λ b. b == 10) front ≡ false → length input ≤ 4194304 → HasRead old taken input → held ≡ old.under_way.items ++ front
-    → ((cards : List (List ℕ)) → length cards < 2 ^ 31 → IsReading (put_back taken old.reading) cards → IsReading (put_back taken new.reading) (cards ++ cleaned held ∷ []))
-    → new.under_way.items ≡ [] → new.refused ≡ None → new.reading.heads ≤ 2000 → HasRead new taken (input ++ front ++ 10 ∷ [])
-fed_card old new taken input front held none few has holds step under refused heads = record {
+pub fed_card : (given : Option (List Account)) (old new : Reader) (taken : List JobView) (input front held : List ℕ) → list_any (λ b. b == 10) front ≡ false → length input ≤ 4194304 → HasRead given old taken input → held ≡ old.under_way.items ++ front
+    → ((cards : List (List ℕ)) → length cards < 2 ^ 31 → IsReading given (put_back taken old.reading) cards → IsReading given (put_back taken new.reading) (cards ++ cleaned held ∷ []))
+    → new.under_way.items ≡ [] → new.refused ≡ None → new.reading.heads ≤ 2000 → HasRead given new taken (input ++ front ++ 10 ∷ [])
+fed_card given old new taken input front held none few has holds step under refused heads = record {
   refuses_none = refused;
   under_way_is = under ∙ sym (under_way-feed input front);
-  read = read_card old new.reading taken input front held none few has holds step;
+  read = read_card given old new.reading taken input front held none few has holds step;
   few_heads = heads;
 }
 
 -- bytes without a line feed belong to the card under way
-pub fed_rest : (old new : Reader) (taken : List JobView) (input rest : List ℕ) → list_any (λ b. b == 10) rest ≡ false → HasRead old taken input
-    → new.reading ≡ old.reading → new.under_way.items ≡ old.under_way.items ++ rest → new.refused ≡ None → HasRead new taken (input ++ rest)
-fed_rest old new taken input rest none has reading under refused =
-    let P : List (List ℕ) → Type 0 = λ ps. IsReading (put_back taken new.reading) (map cleaned ps) in
-    let Q : Reading → Type 0 = λ r. IsReading (put_back taken r) (map cleaned (ended input)) in
+pub fed_rest : (given : Option (List Account)) (old new : Reader) (taken : List JobView) (input rest : List ℕ) → list_any (λ b. b == 10) rest ≡ false → HasRead given old taken input
+    → new.reading ≡ old.reading → new.under_way.items ≡ old.under_way.items ++ rest → new.refused ≡ None → HasRead given new taken (input ++ rest)
+fed_rest given old new taken input rest none has reading under refused =
+    let P : List (List ℕ) → Type 0 = λ ps. IsReading given (put_back taken new.reading) (map cleaned ps) in
+    let Q : Reading → Type 0 = λ r. IsReading given (put_back taken r) (map cleaned (ended input)) in
     let R : Reading → Type 0 = λ r. r.heads ≤ 2000 in
     record {
       refuses_none = refused;
@@ -81,33 +82,33 @@ regroup_input input done front = simp append_assoc
 pub regroup_whole : (input done front behind : List ℕ) → ((input ++ done) ++ front ++ 10 ∷ []) ++ behind ≡ input ++ (done ++ (front ++ 10 ∷ behind))
 regroup_whole input done front behind = simp append_assoc
 
-over_by : (a b : Bool) → a ≡ false → b ≡ false → (a || b) ≡ false
+pub over_by : (a b : Bool) → a ≡ false → b ≡ false → (a || b) ≡ false
 over_by false false h k = refl
 over_by true b h k = cc
 over_by false true h k = cc
 
-over_heads : (a b : Bool) → b ≡ true → (a || b) ≡ true
+pub over_heads : (a b : Bool) → b ≡ true → (a || b) ≡ true
 over_heads true true h = refl
 over_heads false true h = refl
 over_heads a false h = cc
 
-within : (m n : ℕ) → n ≤ m → nat_lt m n ≡ false
+pub within : (m n : ℕ) → n ≤ m → nat_lt m n ≡ false
 within m n h = grind (arith, nat_tests)
 
-beyond : (m n : ℕ) → m < n → nat_lt m n ≡ true
+pub beyond : (m n : ℕ) → m < n → nat_lt m n ≡ true
 beyond m n h = grind (arith, nat_tests)
 
 -- a reader that stands for its bytes hasn't passed a limit
-pub stands_fits : (reader : Reader) (taken : List JobView) (input : List ℕ) → StandsFor reader taken input → passes input ≡ false
-stands_fits reader taken input stands =
+pub stands_fits : (given : Option (List Account)) (reader : Reader) (taken : List JobView) (input : List ℕ) → StandsFor given reader taken input → passes input ≡ false
+stands_fits given reader taken input stands =
     let heads : reader.reading.heads ≡ count_by is_head (map cleaned (ended input)) = stands.has_read.read.heads_are in
     over_by (nat_lt 4194304 (length input)) (nat_lt 2000 (count_by is_head (map cleaned (ended input))))
     (within 4194304 (length input) stands.few_bytes)
     (within 2000 (count_by is_head (map cleaned (ended input))) (omega (arith, stands.has_read.few_heads)))
 
 -- too many heads, whatever comes behind them
-pub heads_pass : (reading : Reading) (taken : List JobView) (input more : List ℕ) → IsReading (put_back taken reading) (map cleaned (ended input)) → 2000 < reading.heads → passes (input ++ more) ≡ true
-heads_pass reading taken input more read many =
+pub heads_pass : (given : Option (List Account)) (reading : Reading) (taken : List JobView) (input more : List ℕ) → IsReading given (put_back taken reading) (map cleaned (ended input)) → 2000 < reading.heads → passes (input ++ more) ≡ true
+heads_pass given reading taken input more read many =
     let prefix = ended-prefix input more in
     let f : List ℕ → ℕ = λ c. (if is_head c then 1 else 0) in
     let heads : reading.heads ≡ count_by is_head (map cleaned (ended input)) = read.heads_are in
@@ -119,10 +120,10 @@ heads_pass reading taken input more read many =
     (beyond 2000 (count_by is_head (map cleaned (ended (input ++ more)))) (omega arith))
 
 -- the cards of an input that ends with a line feed, or with nothing
-pub no_last : (reader : Reader) (taken : List JobView) (input : List ℕ) → HasRead reader taken input → reader.under_way.items ≡ [] → IsReading (put_back taken reader.reading) (cards input)
-no_last reader taken input has empty =
-    let P : List ℕ → Type 0 = λ u. IsReading (put_back taken reader.reading) (map cleaned (ended input ++ unless_empty u)) in
-    let Q : List (List ℕ) → Type 0 = λ ps. IsReading (put_back taken reader.reading) (map cleaned ps) in
+pub no_last : (given : Option (List Account)) (reader : Reader) (taken : List JobView) (input : List ℕ) → HasRead given reader taken input → reader.under_way.items ≡ [] → IsReading given (put_back taken reader.reading) (cards input)
+no_last given reader taken input has empty =
+    let P : List ℕ → Type 0 = λ u. IsReading given (put_back taken reader.reading) (map cleaned (ended input ++ unless_empty u)) in
+    let Q : List (List ℕ) → Type 0 = λ ps. IsReading given (put_back taken reader.reading) (map cleaned ps) in
     subst P (sym empty ∙ has.under_way_is) (subst Q (sym (append-nil (ended input))) has.read)
 
 unless_empty-some : (bytes : List ℕ) → 0 < length bytes → unless_empty bytes ≡ bytes ∷ []
@@ -130,10 +131,10 @@ unless_empty-some [] h = absurd (omega arith)
 unless_empty-some (b ∷ bytes) h = refl
 
 -- the cards of an input with a last card that no line feed ends
-pub with_last : (old : Reader) (new : Reading) (taken : List JobView) (input : List ℕ) → length input ≤ 4194304 → HasRead old taken input → 0 < length old.under_way.items
-    → ((cards : List (List ℕ)) → length cards < 2 ^ 31 → IsReading (put_back taken old.reading) cards → IsReading (put_back taken new) (cards ++ cleaned old.under_way.items ∷ [])) → IsReading (put_back taken new) (cards input)
-with_last old new taken input few has some step =
-    let P : List (List ℕ) → Type 0 = λ cs. IsReading (put_back taken new) cs in
+pub with_last : (given : Option (List Account)) (old : Reader) (new : Reading) (taken : List JobView) (input : List ℕ) → length input ≤ 4194304 → HasRead given old taken input → 0 < length old.under_way.items
+    → ((cards : List (List ℕ)) → length cards < 2 ^ 31 → IsReading given (put_back taken old.reading) cards → IsReading given (put_back taken new) (cards ++ cleaned old.under_way.items ∷ [])) → IsReading given (put_back taken new) (cards input)
+with_last given old new taken input few has some step =
+    let P : List (List ℕ) → Type 0 = λ cs. IsReading given (put_back taken new) cs in
     let is : map cleaned (ended input) ++ cleaned old.under_way.items ∷ [] ≡ cards input =
     sym (map-append cleaned (ended input) (old.under_way.items ∷ []))
     ∙ ap (λ (ps : List (List ℕ)). map cleaned (ended input ++ ps)) (sym (unless_empty-some old.under_way.items some))

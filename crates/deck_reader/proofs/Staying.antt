@@ -9,7 +9,7 @@ use Rattle.deck_reader.specs.declared.reading.Stage.TheVariants.{Front, Inside, 
 use Rattle.deck_reader.specs.JobView.{JobView}
 use Rattle.deck_reader.specs.Cards.{cleaned, ended, under_way, unless_empty, cards}
 use Rattle.deck_reader.specs.Forms.{is_head, is_end}
-use Rattle.deck_reader.specs.Batch.{Run, runs, body, before_head, is_ended, over, opened, job_of, jobs_of, ended_jobs_of, known_accounts_of, ended_jobs, known_accounts}
+use Rattle.deck_reader.specs.Batch.{Run, runs, body, before_head, is_ended, over, job_of, jobs_of, accounts_from, accounts_of, ended_jobs_of, known_accounts_of, ended_jobs, known_accounts}
 use Rattle.deck_reader.specs.BatchLaws.{JobsStay, AccountsStay}
 use Rattle.deck_reader.specs.Fed.{StandsFor}
 use Rattle.deck_reader.specs.Reading.{AtStage}
@@ -99,20 +99,20 @@ over_grows false accounts cards card is = elim (last_run (runs cards)) [
       )
 ]
 
-ended_grow_by : (b : Bool) (cards : List (List ℕ)) (card : List ℕ) → list_any is_head cards ≡ b → (more : List JobView) × (ended_jobs_of (cards ++ card ∷ []) ≡ ended_jobs_of cards ++ more)
-ended_grow_by true cards card is =
-    let grown = over_grows (is_head card) (opened (before_head cards)) cards card refl in
-    (grown.0, ap (λ (cs : List (List ℕ)). jobs_of (opened cs) 1 (over (runs (cards ++ card ∷ [])))) (before-found is_head cards card is) ∙ grown.1)
-ended_grow_by false cards card is =
-    let none : ended_jobs_of cards ≡ [] = ap (λ (rs : List Run). jobs_of (opened (before_head cards)) 1 (over rs)) (no_run cards is) in
-    (ended_jobs_of (cards ++ card ∷ []), ap (λ (js : List JobView). js ++ ended_jobs_of (cards ++ card ∷ [])) (sym none))
+ended_grow_by : (given : Option (List Account)) (b : Bool) (cards : List (List ℕ)) (card : List ℕ) → list_any is_head cards ≡ b → (more : List JobView) × (ended_jobs_of given (cards ++ card ∷ []) ≡ ended_jobs_of given cards ++ more)
+ended_grow_by given true cards card is =
+    let grown = over_grows (is_head card) (accounts_from given (before_head cards)) cards card refl in
+    (grown.0, ap (λ (cs : List (List ℕ)). jobs_of (accounts_from given cs) 1 (over (runs (cards ++ card ∷ [])))) (before-found is_head cards card is) ∙ grown.1)
+ended_grow_by given false cards card is =
+    let none : ended_jobs_of given cards ≡ [] = ap (λ (rs : List Run). jobs_of (accounts_from given (before_head cards)) 1 (over rs)) (no_run cards is) in
+    (ended_jobs_of given (cards ++ card ∷ []), ap (λ (js : List JobView). js ++ ended_jobs_of given (cards ++ card ∷ [])) (sym none))
 
-ended_grow : (cards more : List (List ℕ)) → (rest : List JobView) × (ended_jobs_of (cards ++ more) ≡ ended_jobs_of cards ++ rest)
-ended_grow cards [] = ([], ap ended_jobs_of (append-nil cards) ∙ sym (append-nil (ended_jobs_of cards)))
-ended_grow cards (card ∷ more) =
-    let one = ended_grow_by (list_any is_head cards) cards card refl in
-    let others = ended_grow (cards ++ card ∷ []) more in
-    (one.0 ++ others.0, ap ended_jobs_of (sym (append_assoc cards (card ∷ []) more)) ∙ others.1 ∙ ap (λ (js : List JobView). js ++ others.0) one.1 ∙ append_assoc (ended_jobs_of cards) one.0 others.0)
+ended_grow : (given : Option (List Account)) (cards more : List (List ℕ)) → (rest : List JobView) × (ended_jobs_of given (cards ++ more) ≡ ended_jobs_of given cards ++ rest)
+ended_grow given cards [] = ([], ap (ended_jobs_of given) (append-nil cards) ∙ sym (append-nil (ended_jobs_of given cards)))
+ended_grow given cards (card ∷ more) =
+    let one = ended_grow_by given (list_any is_head cards) cards card refl in
+    let others = ended_grow given (cards ++ card ∷ []) more in
+    (one.0 ++ others.0, ap (ended_jobs_of given) (sym (append_assoc cards (card ∷ []) more)) ∙ others.1 ∙ ap (λ (js : List JobView). js ++ others.0) one.1 ∙ append_assoc (ended_jobs_of given cards) one.0 others.0)
 
 -- the cards of a part of an input are the first cards of the whole
 cards_more : (input more : List ℕ) → (rest : List (List ℕ)) × (cards (input ++ more) ≡ map cleaned (ended input) ++ rest)
@@ -127,14 +127,14 @@ cards_more input more =
     )
 
 pub jobs_stay : JobsStay
-jobs_stay input more =
+jobs_stay given input more =
     let known = map cleaned (ended input) in
     let whole = cards_more input more in
     let all = cards (input ++ more) in
     let over_part = over_first (runs all) in
-    let ended_part = first_of (opened (before_head all)) (runs all) (over (runs all)) over_part.0 over_part.1 in
-    let grown = ended_grow known whole.0 in
-    (grown.0 ++ ended_part.0, ended_part.1 ∙ ap (λ (js : List JobView). js ++ ended_part.0) (ap ended_jobs_of whole.1 ∙ grown.1) ∙ append_assoc (ended_jobs_of known) grown.0 ended_part.0)
+    let ended_part = first_of (accounts_from given (before_head all)) (runs all) (over (runs all)) over_part.0 over_part.1 in
+    let grown = ended_grow given known whole.0 in
+    (grown.0 ++ ended_part.0, ended_part.1 ∙ ap (λ (js : List JobView). js ++ ended_part.0) (ap (ended_jobs_of given) whole.1 ∙ grown.1) ∙ append_assoc (ended_jobs_of given known) grown.0 ended_part.0)
 
 front_stays : (known more : List (List ℕ)) → list_any is_head known ≡ true → before_head (known ++ more) ≡ before_head known
 front_stays known [] is = ap before_head (append-nil known)
@@ -148,11 +148,11 @@ known_by true known accounts h = (refl, ap (λ (o : Option (List Account)). unwr
 known_by false known accounts h = cc
 
 pub accounts_stay : AccountsStay
-accounts_stay input more accounts is =
+accounts_stay given input more accounts is =
     let known = map cleaned (ended input) in
     let whole = cards_more input more in
-    let at = known_by (list_any is_head known) (opened (before_head known)) accounts is in
-    ap (λ (cs : List (List ℕ)). opened (before_head cs)) whole.1 ∙ ap opened (front_stays known whole.0 at.0) ∙ at.1
+    let at = known_by (list_any is_head known) (accounts_from given (before_head known)) accounts is in
+    ap (λ (cs : List (List ℕ)). accounts_from given (before_head cs)) whole.1 ∙ ap (accounts_from given) (front_stays known whole.0 at.0) ∙ at.1
 
 -- ---- what a reading keeps
 
@@ -163,13 +163,13 @@ if_so_ended : (run : Run) → is_ended run ≡ true → if_ended run ≡ run ∷
 if_so_ended run h = ap (λ (b : Bool). cond b (run ∷ []) []) h
 
 -- the jobs by now are those that the cards have ended
-pub jobs_ended : (stage : Stage) (accounts : List Account) (cards : List (List ℕ)) (jobs : List JobView) → AtStage stage accounts cards jobs → accounts ≡ opened (before_head cards) → jobs ≡ ended_jobs_of cards
-jobs_ended Front accounts cards jobs at are = at.1 ∙ sym (ap (λ (rs : List Run). jobs_of (opened (before_head cards)) 1 (over rs)) at.0)
-jobs_ended (Inside job) accounts cards jobs at are =
+pub jobs_ended : (given : Option (List Account)) (stage : Stage) (accounts : List Account) (cards : List (List ℕ)) (jobs : List JobView) → AtStage stage accounts cards jobs → accounts ≡ accounts_of given cards → jobs ≡ ended_jobs_of given cards
+jobs_ended given Front accounts cards jobs at are = at.1 ∙ sym (ap (λ (rs : List Run). jobs_of (accounts_of given cards) 1 (over rs)) at.0)
+jobs_ended given (Inside job) accounts cards jobs at are =
     at.4
     ∙ ap (jobs_of accounts 1) (sym (ap over at.2 ∙ over-last at.0 at.1 ∙ ap (λ (rs : List Run). at.0 ++ rs) (if_not_ended at.1 at.3) ∙ append-nil at.0))
     ∙ ap (λ (xs : List Account). jobs_of xs 1 (over (runs cards))) are
-jobs_ended Outside accounts cards jobs at are =
+jobs_ended given Outside accounts cards jobs at are =
     at.4
     ∙ ap (jobs_of accounts 1) (at.2 ∙ sym (ap over at.2 ∙ over-last at.0 at.1 ∙ ap (λ (rs : List Run). at.0 ++ rs) (if_so_ended at.1 at.3)))
     ∙ ap (λ (xs : List Account). jobs_of xs 1 (over (runs cards))) are
@@ -177,31 +177,31 @@ jobs_ended Outside accounts cards jobs at are =
 some_runs : (runs done : List Run) (last : Run) → runs ≡ done ++ last ∷ [] → 0 < length runs
 some_runs runs done last is = omega (arith, ap length is, length-append done (last ∷ []))
 
-known_by_stage : (stage : Stage) (accounts : List Account) (cards : List (List ℕ)) (jobs : List JobView) → AtStage stage accounts cards jobs → (stage ≡ Front → ⊥) → known_accounts_of cards ≡ Some (opened (before_head cards))
-known_by_stage Front accounts cards jobs at behind = absurd (behind refl)
-known_by_stage (Inside job) accounts cards jobs at behind =
-    ap (λ (b : Bool). cond b (Some (opened (before_head cards))) None) (some_head cards (some_runs (runs cards) at.0 at.1 at.2))
-known_by_stage Outside accounts cards jobs at behind =
-    ap (λ (b : Bool). cond b (Some (opened (before_head cards))) None) (some_head cards (some_runs (runs cards) at.0 at.1 at.2))
+known_by_stage : (given : Option (List Account)) (stage : Stage) (accounts : List Account) (cards : List (List ℕ)) (jobs : List JobView) → AtStage stage accounts cards jobs → (stage ≡ Front → ⊥) → known_accounts_of given cards ≡ Some (accounts_of given cards)
+known_by_stage given Front accounts cards jobs at behind = absurd (behind refl)
+known_by_stage given (Inside job) accounts cards jobs at behind =
+    ap (λ (b : Bool). cond b (Some (accounts_of given cards)) None) (some_head cards (some_runs (runs cards) at.0 at.1 at.2))
+known_by_stage given Outside accounts cards jobs at behind =
+    ap (λ (b : Bool). cond b (Some (accounts_of given cards)) None) (some_head cards (some_runs (runs cards) at.0 at.1 at.2))
 
 -- the jobs taken, and those that a reader keeps, are those that the cards have ended
-pub taken_and_kept : (reader : Reader) (taken : List JobView) (input : List ℕ) → StandsFor reader taken input → taken ++ reader.reading.jobs ≡ ended_jobs input
-taken_and_kept reader taken input stands =
+pub taken_and_kept : (given : Option (List Account)) (reader : Reader) (taken : List JobView) (input : List ℕ) → StandsFor given reader taken input → taken ++ reader.reading.jobs ≡ ended_jobs given input
+taken_and_kept given reader taken input stands =
     let read = stands.has_read.read in
-    jobs_ended reader.reading.stage reader.reading.accounts (map cleaned (ended input)) (taken ++ reader.reading.jobs) read.at_stage read.accounts_are
+    jobs_ended given reader.reading.stage reader.reading.accounts (map cleaned (ended input)) (taken ++ reader.reading.jobs) read.at_stage read.accounts_are
 
 -- before the first head no accounts are known
-pub none_known : (reader : Reader) (taken : List JobView) (input : List ℕ) → reader.reading.stage ≡ Front → StandsFor reader taken input → known_accounts input ≡ None
-none_known reader taken input is stands =
+pub none_known : (given : Option (List Account)) (reader : Reader) (taken : List JobView) (input : List ℕ) → reader.reading.stage ≡ Front → StandsFor given reader taken input → known_accounts given input ≡ None
+none_known given reader taken input is stands =
     let cards = map cleaned (ended input) in
     let front = subst (λ (s : Stage). AtStage s reader.reading.accounts cards (taken ++ reader.reading.jobs)) is stands.has_read.read.at_stage in
-    ap (λ (b : Bool). cond b (Some (opened (before_head cards))) None) (no_head cards front.0)
+    ap (λ (b : Bool). cond b (Some (accounts_of given cards)) None) (no_head cards front.0)
 
 -- behind it they are
-pub some_known : (reader : Reader) (taken : List JobView) (input : List ℕ) → (reader.reading.stage ≡ Front → ⊥) → StandsFor reader taken input → known_accounts input ≡ Some reader.reading.accounts
-some_known reader taken input behind stands =
+pub some_known : (given : Option (List Account)) (reader : Reader) (taken : List JobView) (input : List ℕ) → (reader.reading.stage ≡ Front → ⊥) → StandsFor given reader taken input → known_accounts given input ≡ Some reader.reading.accounts
+some_known given reader taken input behind stands =
     let read = stands.has_read.read in
-    known_by_stage reader.reading.stage reader.reading.accounts (map cleaned (ended input)) (taken ++ reader.reading.jobs) read.at_stage behind ∙ ap Some (sym read.accounts_are)
+    known_by_stage given reader.reading.stage reader.reading.accounts (map cleaned (ended input)) (taken ++ reader.reading.jobs) read.at_stage behind ∙ ap Some (sym read.accounts_are)
 
 -- what follows where nothing is there
 pub if_none : {A P Q : Type 0} (r : Option A) → IfNone r P → (P → Q) → IfNone r Q

@@ -115,38 +115,57 @@ over [] = []
 over (run ∷ []) = if is_ended run then run ∷ [] else []
 over (run ∷ next ∷ runs) = run ∷ over (next ∷ runs)
 
--- the jobs that these cards have ended
-abbrev pub ended_jobs_of : List (List ℕ) → List JobView
-ended_jobs_of cards = jobs_of (opened (before_head cards)) 1 (over (runs cards))
+-- the accounts of a batch with these cards before its first head: those that are given, or else those that the cards open
+abbrev pub accounts_from : Option (List Account) → List (List ℕ) → List Account
+accounts_from None front = opened front
+accounts_from (Some accounts) front = accounts
+
+-- how many of these cards open an account: none where the accounts are given
+abbrev pub openings_in : Option (List Account) → List (List ℕ) → ℕ
+openings_in None front = length (opened front)
+openings_in (Some accounts) front = 0
+
+-- the accounts of a batch of these cards
+abbrev pub accounts_of : Option (List Account) → List (List ℕ) → List Account
+accounts_of given cards = accounts_from given (before_head cards)
 
 -- the accounts, once a head has come
-abbrev pub known_accounts_of : List (List ℕ) → Option (List Account)
-known_accounts_of cards = if list_any is_head cards then Some (opened (before_head cards)) else None
+abbrev pub known_accounts_of : Option (List Account) → List (List ℕ) → Option (List Account)
+known_accounts_of given cards = if list_any is_head cards then Some (accounts_of given cards) else None
+
+-- the jobs that these cards have ended
+abbrev pub ended_jobs_of : Option (List Account) → List (List ℕ) → List JobView
+ended_jobs_of given cards = jobs_of (accounts_of given cards) 1 (over (runs cards))
 
 -- how many of these cards aren't blank
 abbrev pub written : List (List ℕ) → ℕ
 written cards = count_by (λ c. nat_lt 0 (length c)) cards
 
 -- the stray cards: those before the first head that open no account, and those behind a job's end
-abbrev pub strays : List (List ℕ) → ℕ
-strays cards = (written (before_head cards) - length (opened (before_head cards))) + sum_by (λ run. written (outside run)) (runs cards)
+abbrev pub strays : Option (List Account) → List (List ℕ) → ℕ
+strays given cards = (written (before_head cards) - openings_in given (before_head cards)) + sum_by (λ run. written (outside run)) (runs cards)
 
 -- the batch of these cards
-abbrev pub batch_of : List (List ℕ) → Batch
-batch_of cards =
-    let accounts = opened (before_head cards) in
-    record { accounts = accounts; jobs = jobs_of accounts 1 (runs cards); stray = strays cards }
+abbrev pub batch_of : Option (List Account) → List (List ℕ) → Batch
+batch_of given cards =
+    let accounts = accounts_of given cards in
+    record { accounts = accounts; jobs = jobs_of accounts 1 (runs cards); stray = strays given cards }
 
+-- the batch of an input, with the accounts that are given, where they are
+abbrev pub batch_with : Option (List Account) → List ℕ → Batch
+batch_with given bytes = batch_of given (cards bytes)
+
+-- the batch of an input whose own cards open its accounts
 abbrev pub batch : List ℕ → Batch
-batch bytes = batch_of (cards bytes)
+batch bytes = batch_with None bytes
 
 -- the jobs that a part of an input has ended, by the cards that a line feed has ended
-abbrev pub ended_jobs : List ℕ → List JobView
-ended_jobs bytes = ended_jobs_of (map cleaned (ended bytes))
+abbrev pub ended_jobs : Option (List Account) → List ℕ → List JobView
+ended_jobs given bytes = ended_jobs_of given (map cleaned (ended bytes))
 
 -- the accounts that are known from a part of an input, once such a card has begun a job
-abbrev pub known_accounts : List ℕ → Option (List Account)
-known_accounts bytes = known_accounts_of (map cleaned (ended bytes))
+abbrev pub known_accounts : Option (List Account) → List ℕ → Option (List Account)
+known_accounts given bytes = known_accounts_of given (map cleaned (ended bytes))
 
 -- more than 4,194,304 bytes or 2,000 heads
 abbrev pub is_over : List ℕ → List (List ℕ) → Bool

@@ -9,7 +9,7 @@ use Rattle.deck_reader.specs.declared.reading.Reading.{Reading}
 use Rattle.deck_reader.specs.declared.reading.Stage.{Stage}
 use Rattle.deck_reader.specs.declared.reading.Stage.TheVariants.{Front, Inside, Outside}
 use Rattle.deck_reader.specs.Forms.{is_head, is_data, job_card, counted}
-use Rattle.deck_reader.specs.Batch.{Run, runs, before_head, opened, strays, written, jobs_of, is_in_range, is_ended, account_for, job_from}
+use Rattle.deck_reader.specs.Batch.{Run, runs, before_head, accounts_of, openings_in, strays, written, jobs_of, is_in_range, is_ended, account_for, job_from}
 use Rattle.deck_reader.specs.JobView.{JobView}
 use Rattle.deck_reader.specs.CardFlaws.{is_long, is_foul}
 
@@ -57,6 +57,7 @@ jobs_with Outside jobs = jobs
 
 -- the job under way is ended
 pub record Closes (old new : Reading) : Type 0 where
+  pub given : new.given ≡ old.given
   pub accounts : new.accounts ≡ old.accounts
   pub jobs : new.jobs ≡ jobs_with old.stage old.jobs
   pub heads : new.heads ≡ old.heads
@@ -70,12 +71,13 @@ AtStage (Inside job) accounts cards jobs = (done : List Run) × (last : Run) × 
     × (jobs ≡ jobs_of accounts 1 done) × IsOpenJob accounts (length done + 1) last.head last.behind job
 AtStage Outside accounts cards jobs = (done : List Run) × (last : Run) × (runs cards ≡ done ++ last ∷ []) × (is_ended last ≡ true) × (jobs ≡ jobs_of accounts 1 (runs cards))
 
--- a reading stands for the cards that have come
-pub record IsReading (reading : Reading) (cards : List (List ℕ)) : Type 0 where
-  pub accounts_are : reading.accounts ≡ opened (before_head cards)
-  pub written_more : length reading.accounts ≤ written (before_head cards)
+-- a reading stands for the cards that have come; its accounts may be given
+pub record IsReading (given : Option (List Account)) (reading : Reading) (cards : List (List ℕ)) : Type 0 where
+  pub given_is : reading.given ≡ is_some given
+  pub accounts_are : reading.accounts ≡ accounts_of given cards
+  pub written_more : openings_in given (before_head cards) ≤ written (before_head cards)
   pub heads_are : reading.heads ≡ count_by is_head cards
-  pub stray_is : reading.stray ≡ strays cards
+  pub stray_is : reading.stray ≡ strays given cards
   pub at_stage : AtStage reading.stage reading.accounts cards reading.jobs
 
 -- a reading from which jobs were taken, with these jobs in front of those that it keeps
@@ -89,4 +91,4 @@ with_stray count card = if nat_lt 0 (length card) then min (count + 1) (2 ^ 32 -
 -- where a call ends well, it has read a card: the reading of any cards became that of these and this one behind them, whatever jobs were taken
 abbrev pub TakesCard : {A E : Type 0} → Reading → Reading → List ℕ → Result A E → Type 0
 TakesCard old new card result =
-    (taken : List JobView) (cards : List (List ℕ)) → length cards < 2 ^ 31 → IsReading (put_back taken old) cards → OnOk result (IsReading (put_back taken new) (cards ++ card ∷ []))
+    (given : Option (List Account)) (taken : List JobView) (cards : List (List ℕ)) → length cards < 2 ^ 31 → IsReading given (put_back taken old) cards → OnOk result (IsReading given (put_back taken new) (cards ++ card ∷ []))

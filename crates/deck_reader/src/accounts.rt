@@ -40,15 +40,18 @@ fn has_name(account: &Account, name: &[u8]) -> bool
     account.name.as_slice() == name
 }
 
-/// Opens the account that a card states, where there is one, its name is new, and there is room. The answer is whether an
-/// account was opened.
-pub fn open(accounts: &mut Listed<Account>, card: &[u8]) -> Result<bool, AllocError>
+/// Opens the account that a card states, where there is one, its name is new, and there is room; none where the accounts are
+/// given. The answer is whether an account was opened.
+pub fn open(accounts: &mut Listed<Account>, given: bool, card: &[u8]) -> Result<bool, AllocError>
     requires { length accounts.old ≤ 500 }
-    ensures ok { OnOk result (accounts.new ≡ with_account accounts.old (account_on card.now)) }
+    ensures ok { OnOk result (accounts.new ≡ (if given then accounts.old else with_account accounts.old (account_on card.now))) }
     ensures one { IfOk result (λ opened. length accounts.new ≡ length accounts.old + (if opened then 1 else 0)) }
     ensures stated { IfOk result (λ opened. IsTrue opened → IsSome (account_on card.now)) }
     ensures few { length accounts.new ≤ 500 }
 {
+    if given {
+        return Ok(false);
+    }
     let Some(stated) = forms::account_card(card) else {
         return Ok(false);
     };

@@ -45,7 +45,7 @@ impl Flaw {
     }
 }
 
-/// An account, as its card opened it.
+/// An account, as its card opened it or as it was given.
 #[derive(Clone, Copy)]
 pub struct Account {
     /// A capital letter and at most 7 more capitals or digits, whatever the card's case of letters.
@@ -142,7 +142,8 @@ impl Eq for Job {
 /// What a whole input is.
 #[derive(Drop)]
 pub struct Batch {
-    /// The accounts, in the order of their cards: at most 500, each with a name of its own.
+    /// The accounts, at most 500: those that cards opened, in the order of the cards and each with a name of its own, or those
+    /// that were given.
     pub accounts: Listed<Account>,
     /// The jobs, in the order of their cards.
     pub jobs: Listed<Job>,

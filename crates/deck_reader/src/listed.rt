@@ -28,8 +28,8 @@ impl<T> Listed<T> {
         }
     }
 
-    /// The items of a vector of std.
-    pub(crate) fn from_vec(items: Vec<T>) -> Listed<T>
+    /// The items of a vector of std, in order. It takes no memory.
+    pub fn from_vec(items: Vec<T>) -> Listed<T>
         ensures { result ≡ items.items }
     {
         Listed { items }

@@ -1,10 +1,12 @@
-ghost use Rattle.std.specs.Prelude.{◌≡◌, ◌≤◌, ◌+◌, ◌++◌, ◌∷◌, [], List, ℕ, true, false, None, Some, IfOk, IfErr, IfNone, IfSome, OnOk, OnSome, IsErrOf, MatchOption, length};
-ghost use Rattle.deck_reader.specs.Batch.{batch, ended_jobs, known_accounts, passes, too_large};
+ghost use Rattle.std.specs.Prelude.{◌≡◌, ◌≤◌, ◌+◌, ◌++◌, ◌∷◌, [], List, Option, ℕ, true, false, None, Some, IfOk, IfErr, IfNone, IfSome, OnOk, OnSome, IsErrOf, MatchOption, length};
+ghost use Rattle.deck_reader.specs.declared.batch.Account.{Account};
+ghost use Rattle.deck_reader.specs.Batch.{batch_with, ended_jobs, known_accounts, passes, too_large};
 ghost use Rattle.deck_reader.specs.JobView.{JobView};
 
 use crate::batch::{Account, Batch, Job};
 use crate::bytes::split_once;
 use crate::cleaning::clean_into;
+use crate::listed::Listed;
 use crate::reading::{Reading, Stage};
 use std::alloc::{AllocError, Global};
 
@@ -58,7 +60,7 @@ impl Reader {
 
     /// A reader that was fed nothing.
     pub fn new(alloc: Global) -> Result<Reader, AllocError>
-        ensures { IfOk result (λ r. StandsFor r [] []) }
+        ensures { IfOk result (λ r. StandsFor None r [] []) }
     {
         Ok(Reader {
             alloc,
@@ -70,13 +72,28 @@ impl Reader {
         })
     }
 
+    /// A reader that was fed nothing, of a batch with these accounts: no card opens one.
+    pub fn with_accounts(alloc: Global, accounts: Listed<Account>) -> Result<Reader, AllocError>
+        requires { length accounts ≤ 500 }
+        ensures { IfOk result (λ r. StandsFor (Some accounts) r [] []) }
+    {
+        Ok(Reader {
+            alloc,
+            fed: 0,
+            under_way: Vec::new(alloc),
+            card: Vec::new(alloc),
+            reading: Reading::with_accounts(alloc, accounts),
+            refused: None,
+        })
+    }
+
     /// Takes the next bytes. They are refused as too large exactly where all bytes fed so far pass a limit.
     pub fn feed(&mut self, bytes: &[u8]) -> Result<(), FeedError>
-        ensures fed { (taken : List JobView) (input : List ℕ) → StandsFor self.old taken input →
-            OnOk result (StandsFor self.new taken (input ++ bytes.now)) }
-        ensures fits { (taken : List JobView) (input : List ℕ) → StandsFor self.old taken input →
+        ensures fed { (given : Option (List Account)) (taken : List JobView) (input : List ℕ) → StandsFor given self.old taken input →
+            OnOk result (StandsFor given self.new taken (input ++ bytes.now)) }
+        ensures fits { (given : Option (List Account)) (taken : List JobView) (input : List ℕ) → StandsFor given self.old taken input →
             OnOk result (passes (input ++ bytes.now) ≡ false) }
-        ensures large { (taken : List JobView) (input : List ℕ) → StandsFor self.old taken input → IsErrOf result FeedError.TooLarge →
+        ensures large { (given : Option (List Account)) (taken : List JobView) (input : List ℕ) → StandsFor given self.old taken input → IsErrOf result FeedError.TooLarge →
             passes (input ++ bytes.now) ≡ true }
         ensures refused { IfErr result (λ e. refusal self.new ≡ Some e) }
         ensures kept { (e : FeedError) → refusal self.old ≡ Some e →
@@ -94,8 +111,8 @@ impl Reader {
 
     /// The accounts, once a card has begun a job: no later byte changes them.
     pub fn accounts(&self) -> Option<&[Account]>
-        ensures known { (taken : List JobView) (input : List ℕ) → StandsFor self.now taken input →
-            MatchOption result (known_accounts input ≡ None) (λ a. known_accounts input ≡ Some a.now) }
+        ensures known { (given : Option (List Account)) (taken : List JobView) (input : List ℕ) → StandsFor given self.now taken input →
+            MatchOption result (known_accounts given input ≡ None) (λ a. known_accounts given input ≡ Some a.now) }
         ensures few { IfSome result (λ a. length a.now ≤ 500) }
     {
         match self.reading.stage {
@@ -107,12 +124,12 @@ impl Reader {
     /// Takes the next job that a card has ended, where there is one: its end card, or the card that begins the next job.
     /// It takes no memory.
     pub fn take_job(&mut self) -> Option<Job>
-        ensures next { (taken : List JobView) (input : List ℕ) → StandsFor self.old taken input →
-            IfSome result (λ job. StandsFor self.new (taken ++ job ∷ []) input) }
-        ensures none { (taken : List JobView) (input : List ℕ) → StandsFor self.old taken input →
-            IfNone result (ended_jobs input ≡ taken) }
-        ensures kept { (taken : List JobView) (input : List ℕ) → StandsFor self.old taken input →
-            IfNone result (StandsFor self.new taken input) }
+        ensures next { (given : Option (List Account)) (taken : List JobView) (input : List ℕ) → StandsFor given self.old taken input →
+            IfSome result (λ job. StandsFor given self.new (taken ++ job ∷ []) input) }
+        ensures none { (given : Option (List Account)) (taken : List JobView) (input : List ℕ) → StandsFor given self.old taken input →
+            IfNone result (ended_jobs given input ≡ taken) }
+        ensures kept { (given : Option (List Account)) (taken : List JobView) (input : List ℕ) → StandsFor given self.old taken input →
+            IfNone result (StandsFor given self.new taken input) }
         ensures fewer { OnSome result (left_to_take self.new + 1 ≡ left_to_take self.old) }
     {
         self.reading.jobs.pop()
@@ -120,10 +137,10 @@ impl Reader {
 
     /// The batch of all bytes fed, but for the jobs that were taken.
     pub fn finish(mut self) -> Result<Batch, FeedError>
-        ensures batch { (taken : List JobView) (input : List ℕ) → StandsFor self taken input → IfOk result (λ b. record b { jobs = taken ++ b.jobs } ≡ batch input) }
+        ensures batch { (given : Option (List Account)) (taken : List JobView) (input : List ℕ) → StandsFor given self taken input → IfOk result (λ b. record b { jobs = taken ++ b.jobs } ≡ batch_with given input) }
         ensures few { IfOk result (λ b. length b.accounts ≤ 500) }
-        ensures fits { (taken : List JobView) (input : List ℕ) → StandsFor self taken input → OnOk result (too_large input ≡ false) }
-        ensures large { (taken : List JobView) (input : List ℕ) → StandsFor self taken input → IsErrOf result FeedError.TooLarge →
+        ensures fits { (given : Option (List Account)) (taken : List JobView) (input : List ℕ) → StandsFor given self taken input → OnOk result (too_large input ≡ false) }
+        ensures large { (given : Option (List Account)) (taken : List JobView) (input : List ℕ) → StandsFor given self taken input → IsErrOf result FeedError.TooLarge →
             too_large input ≡ true }
         ensures kept { (e : FeedError) → refusal self ≡ Some e → result ≡ Err e }
     {
@@ -138,11 +155,11 @@ impl Reader {
     }
 
     fn take(&mut self, bytes: &[u8]) -> Result<(), FeedError>
-        ensures fed { (taken : List JobView) (input : List ℕ) → StandsFor self.old taken input →
-            OnOk result (StandsFor self.new taken (input ++ bytes.now)) }
-        ensures fits { (taken : List JobView) (input : List ℕ) → StandsFor self.old taken input →
+        ensures fed { (given : Option (List Account)) (taken : List JobView) (input : List ℕ) → StandsFor given self.old taken input →
+            OnOk result (StandsFor given self.new taken (input ++ bytes.now)) }
+        ensures fits { (given : Option (List Account)) (taken : List JobView) (input : List ℕ) → StandsFor given self.old taken input →
             OnOk result (passes (input ++ bytes.now) ≡ false) }
-        ensures large { (taken : List JobView) (input : List ℕ) → StandsFor self.old taken input → IsErrOf result FeedError.TooLarge →
+        ensures large { (given : Option (List Account)) (taken : List JobView) (input : List ℕ) → StandsFor given self.old taken input → IsErrOf result FeedError.TooLarge →
             passes (input ++ bytes.now) ≡ true }
     {
         if bytes.len() > MOST_BYTES || self.fed > MOST_BYTES - bytes.len() {
@@ -164,8 +181,8 @@ impl Reader {
 
     /// Reads the card under way, where the input ends with one.
     fn end_input(&mut self) -> Result<(), AllocError>
-        ensures read { (taken : List JobView) (input : List ℕ) → StandsFor self.old taken input →
-            OnOk result (IsReading (put_back taken self.new.reading) (cards input)) }
+        ensures read { (given : Option (List Account)) (taken : List JobView) (input : List ℕ) → StandsFor given self.old taken input →
+            OnOk result (IsReading given (put_back taken self.new.reading) (cards input)) }
     {
         if self.under_way.is_empty() {
             return Ok(());

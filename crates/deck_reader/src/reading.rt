@@ -1,4 +1,5 @@
-ghost use Rattle.std.specs.Prelude.{◌≡◌, ◌≤◌, ◌++◌, [], ℕ, List, true, IfOk, OnOk, length};
+ghost use Rattle.std.specs.Prelude.{◌≡◌, ◌≤◌, ◌++◌, [], ℕ, List, Option, None, Some, true, IfOk, OnOk, length};
+ghost use Rattle.deck_reader.specs.declared.batch.Account.{Account};
 ghost use Rattle.deck_reader.specs.Batch.{batch_of};
 ghost use Rattle.deck_reader.specs.Forms.{is_head};
 ghost use Rattle.deck_reader.specs.JobView.{JobView};
@@ -25,8 +26,10 @@ pub enum Stage {
 /// What is kept of the cards that have come.
 #[derive(Drop)]
 pub struct Reading {
-    /// The accounts opened.
+    /// The accounts opened, or given.
     pub accounts: Listed<Account>,
+    /// Whether they are given, so that no card opens one.
+    pub given: bool,
     /// The jobs whose cards have all come, but for those that were taken.
     pub jobs: Queue<Job>,
     /// How many cards began a job.
@@ -43,10 +46,26 @@ impl Reading {
 
     /// Before the first card.
     pub fn new(alloc: Global) -> Reading
-        ensures { IsReading result [] }
+        ensures { IsReading None result [] }
     {
         Reading {
             accounts: Listed::new(alloc),
+            given: false,
+            jobs: Queue::new(alloc),
+            heads: 0,
+            stray: 0,
+            stage: Stage::Front,
+        }
+    }
+
+    /// Before the first card, where these are the accounts.
+    pub fn with_accounts(alloc: Global, accounts: Listed<Account>) -> Reading
+        requires { length accounts ≤ 500 }
+        ensures { IsReading (Some accounts) result [] }
+    {
+        Reading {
+            accounts,
+            given: true,
             jobs: Queue::new(alloc),
             heads: 0,
             stray: 0,
@@ -63,7 +82,7 @@ impl Reading {
         }
         match &mut self.stage {
             Stage::Front => {
-                let opened = accounts::open(&mut self.accounts, card)?;
+                let opened = accounts::open(&mut self.accounts, self.given, card)?;
                 if !opened {
                     self.count_stray(card);
                 }
@@ -113,8 +132,8 @@ impl Reading {
 
     /// The batch, whose cards have all come, with the jobs that weren't taken.
     pub fn finish(mut self, alloc: Global) -> Result<Batch, AllocError>
-        ensures batch { (taken : List JobView) (cards : List (List ℕ)) → IsReading (put_back taken self) cards →
-            IfOk result (λ b. record b { jobs = taken ++ b.jobs } ≡ batch_of cards) }
+        ensures batch { (given : Option (List Account)) (taken : List JobView) (cards : List (List ℕ)) → IsReading given (put_back taken self) cards →
+            IfOk result (λ b. record b { jobs = taken ++ b.jobs } ≡ batch_of given cards) }
         ensures few { IfOk result (λ b. length b.accounts ≤ 500) }
     {
         self.close_job(alloc)?;

@@ -2,7 +2,7 @@
 ghost use Rattle.std.specs.Prelude.{◌≤◌, length};
 
 use crate::cases::see;
-use crate::runs::{WIDE, run_past, words_of};
+use crate::runs::{WIDE, no_accounts, no_sink, run_past, words_of};
 use batch_io::{Gate, MemSink, ReadFailed, Source};
 use batch_monitor::{Status, run_monitor};
 use std::alloc::{AllocError, Global};
@@ -264,7 +264,18 @@ fn reads_while_running(rt: HostRuntime) -> Result<(), Fail> {
     let mut sink = MemSink::new(rt.alloc(), 65_536, Vec::new(rt.alloc()), 10_000)?;
     let words = words_of(rt.alloc(), "--workers 2")?;
     let words = words.as_slice();
-    let status = run_monitor(&rt, rt.alloc(), words, &mut source, &mut sink, &gate);
+    let mut accounts = no_accounts(rt.alloc());
+    let mut closing = no_sink(rt.alloc())?;
+    let status = run_monitor(
+        &rt,
+        rt.alloc(),
+        words,
+        &mut source,
+        &mut sink,
+        &mut accounts,
+        &mut closing,
+        &gate,
+    );
     see(&rt, "the end", status == Status::Done);
     see(&rt, "a worker ends the job in time", source.left > 0);
     let whole = sink.bytes().ends_with(b"STRAY CARDS 0\n");

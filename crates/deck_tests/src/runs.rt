@@ -70,6 +70,16 @@ pub(crate) fn words_of(alloc: Global, text: &str) -> Result<Vec<String>, AllocEr
     Ok(words)
 }
 
+/// A source of accounts that nobody reads.
+pub(crate) fn no_accounts(alloc: Global) -> MemSource {
+    MemSource::new(Vec::new(alloc), 1, Vec::new(alloc), None)
+}
+
+/// A sink that takes nothing.
+pub(crate) fn no_sink(alloc: Global) -> Result<MemSink, AllocError> {
+    MemSink::new(alloc, 1, Vec::new(alloc), 0)
+}
+
 /// A run with these words.
 pub(crate) fn run<R: Threads + Wait + Sync>(
     rt: &R,
@@ -100,7 +110,18 @@ pub(crate) fn run_past<R: Threads + Wait + Sync, G: Gate>(
     );
     let failing = call_numbers(alloc, outside.failing_write)?;
     let mut sink = MemSink::new(alloc, piece, failing, outside.sink_stop)?;
-    let status = run_monitor(rt, alloc, words.as_slice(), &mut source, &mut sink, gate);
+    let mut accounts = no_accounts(alloc);
+    let mut closing = no_sink(alloc)?;
+    let status = run_monitor(
+        rt,
+        alloc,
+        words.as_slice(),
+        &mut source,
+        &mut sink,
+        &mut accounts,
+        &mut closing,
+        gate,
+    );
     let written = Vec::from_slice(alloc, sink.bytes())?;
     Ok(Ran { status, written })
 }

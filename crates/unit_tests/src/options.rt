@@ -22,7 +22,7 @@ fn read(alloc: Global, line: &str) -> Result<Order, WordsError> {
 }
 
 /// A line, and behind the bar the workers and the queue of its order, in front of which stand the seed and the jobs of one that
-/// makes a batch.
+/// makes a batch. An accounts file is asked for where the line says so.
 const ORDERS: &str = "\
 |4 8
 --workers 1|1 8
@@ -33,6 +33,9 @@ const ORDERS: &str = "\
 --queue 64 --workers=1|1 64
 --workers 0000000016|16 8
 --queue=007|4 7
+--accounts|4 8
+--accounts --workers 2|2 8
+--queue=3 --accounts --workers 2|2 3
 --make 7 --jobs 1|7 1 4 8
 --jobs=2 --make 7|7 2 4 8
 --make=0 --jobs=2000|0 2000 4 8
@@ -41,12 +44,13 @@ const ORDERS: &str = "\
 --queue=2 --jobs 3 --workers=1 --make 0000000004|4 3 1 2
 ";
 
-/// The order of these numbers.
-fn order_of(rt: &impl Abort, numbers: &str) -> Order {
+/// The order of these numbers, and with an accounts file or without one.
+fn order_of(rt: &impl Abort, numbers: &str, accounts: bool) -> Order {
     match words(numbers) {
         [workers, queue, "", ..] => Order::Run {
             workers: unsigned(rt, workers),
             queue: unsigned(rt, queue),
+            accounts,
         },
         [seed, jobs, workers, queue, ..] => Order::Make {
             seed: unsigned(rt, seed),
@@ -66,13 +70,13 @@ fn answers(alloc: Global, line: &str, wanted: Result<Order, WordsError>) -> bool
 fn orders(rt: HostRuntime) {
     for row in ORDERS.lines() {
         let (line, numbers) = row.split_once('|').unwrap_or((row, ""));
-        let wanted = Ok(order_of(&rt, numbers));
+        let wanted = Ok(order_of(&rt, numbers, line.contains("--accounts")));
         see(&rt, row, answers(rt.alloc(), line, wanted));
     }
 }
 
 /// A line, and what is wrong with it: a value that isn't of its range or no number, an option without its value, an option given
-/// twice, one of two options that stand together, or words that are no option.
+/// twice, one of two options that stand together, two that don't, or words that are no option.
 const REFUSALS: &str = "\
 --workers 0|value
 --workers 17|value
@@ -108,6 +112,14 @@ const REFUSALS: &str = "\
 --make 7|alone
 --jobs 1|alone
 --jobs=1 --queue 3|alone
+--accounts --make 7 --jobs 1|not together
+--make 7 --accounts --jobs 1|not together
+--accounts --accounts|twice
+--accounts yes|no option
+--accounts --workers|no value
+--workers --accounts|no value
+--account|no option
+-accounts|no option
 4|no option
 workers 4|no option
 -workers 4|no option

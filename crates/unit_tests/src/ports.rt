@@ -1,6 +1,10 @@
 use crate::rows::{columns, see, unsigned};
-use batch_io::{MemSink, MemSource, ReadFailed, Sink, Source, StdSink, StdSource, WriteFailed};
+use batch_io::{
+    FileSink, FileSource, MemSink, MemSource, ReadFailed, Sink, Source, StdSink, StdSource,
+    WriteFailed,
+};
 use std::alloc::{AllocError, Global};
+use std::fs;
 use std::io::{self, ErrorKind, Read, Write};
 use std::process::Abort;
 use std::test::Fail;
@@ -195,4 +199,25 @@ fn a_writer_fails_once(rt: HostRuntime) {
         "the bytes",
         writer.written.as_slice() == b"abcd".as_slice(),
     );
+}
+
+/// The file that is written and read.
+const FILE: &str = "ports.txt";
+
+#[test]
+fn a_file_gives_what_was_written(rt: HostRuntime) {
+    let mut buf = [0; 4];
+    let mut missing = FileSource::new(&rt, FILE);
+    see(&rt, "no file", missing.read(&mut buf) == Err(ReadFailed));
+    let mut folder = FileSink::new(&rt, ".");
+    see(&rt, "a folder", folder.write(b"abcd") == Err(WriteFailed));
+
+    let mut sink = FileSink::new(&rt, FILE);
+    see(&rt, "four bytes", sink.write(b"abcd") == Ok(4));
+    drop(sink);
+    let mut source = FileSource::new(&rt, FILE);
+    see(&rt, "all of them", source.read(&mut buf) == Ok(4));
+    see(&rt, "the end", source.read(&mut buf) == Ok(0));
+    see(&rt, "the bytes", buf == *b"abcd");
+    see(&rt, "the file goes", fs::remove_file(&rt, FILE).is_ok());
 }

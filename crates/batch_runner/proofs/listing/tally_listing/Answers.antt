@@ -1,4 +1,4 @@
-use Rattle.std.proofs.Common.{◌+◌, length, ap, refl, ◌∙◌}
+use Rattle.std.proofs.Common.{◌+◌, length, None, ap, refl, ◌∙◌}
 use Rattle.batch_summary.specs.declared.tally.Tally.{Tally}
 use Rattle.deck_reader.specs.Batch.{batch}
 use Rattle.batch_intake.proofs.Results.{same_error}
@@ -17,4 +17,4 @@ returns-clause-tally g c =
     let served = c.in_ok-served.ensures.ok in
     c.in_ok-listing.ensures
     ∙ ap (λ (t : Tally). record t { bytes = t.bytes + length c.as_slice.result.now }) c.tally-sections.ensures
-    ∙ tally_is _ _ _ _ served c.args.src.left c.as_slice.result.now refl (c.as_slice.ensures.value ∙ c.in_ok-closing.ensures (batch served.input).jobs served.behind ∙ closing_is _ _ _ _ served)
+    ∙ tally_is _ _ _ _ served c.args.src.left c.as_slice.result.now refl (c.as_slice.ensures.value ∙ c.in_ok-closing.ensures (batch served.input).jobs served.behind ∙ closing_is None _ _ _ _ served)

@@ -3,7 +3,7 @@ use Rattle.deck_reader.proofs.Staying.{none_known, some_known}
 use Rattle.deck_reader.proofs.reader.Reader.accounts.Goals as goal
 
 pub returns-in-Front-clause-known : goal.returns-in-Front-clause-known
-returns-in-Front-clause-known c = λ taken input stands. none_known c.args.self.now taken input c.in-Front.is stands
+returns-in-Front-clause-known c = λ given taken input stands. none_known given c.args.self.now taken input c.in-Front.is stands
 
 pub returns-in_default-clause-known : goal.returns-in_default-clause-known
-returns-in_default-clause-known c = λ taken input stands. some_known c.args.self.now taken input c.in_default.not-Front stands ∙ ap Some (sym c.as_slice.ensures)
+returns-in_default-clause-known c = λ given taken input stands. some_known given c.args.self.now taken input c.in_default.not-Front stands ∙ ap Some (sym c.as_slice.ensures)

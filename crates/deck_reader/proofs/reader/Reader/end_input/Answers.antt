@@ -10,5 +10,5 @@ pub returns : goal.returns
 returns c =
     let some : 0 < vec_len c.args.self.now.under_way = some_items (vec_len c.args.self.now.under_way) (sym c.is_empty.ensures ∙ c.if-is_empty.false) in
     record {
-      read = λ taken input stands. with_last c.args.self.now c.end_card.new.self.reading taken input stands.few_bytes stands.has_read (omega (arith, c.args.self.now.under_way.ok)) (c.in_ok-end_card.ensures.read taken);
+      read = λ given taken input stands. with_last given c.args.self.now c.end_card.new.self.reading taken input stands.few_bytes stands.has_read (omega (arith, c.args.self.now.under_way.ok)) (c.in_ok-end_card.ensures.read given taken);
     }

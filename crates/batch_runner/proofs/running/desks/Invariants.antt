@@ -1,5 +1,5 @@
 use Rattle.std.proofs.Common.{◌≡◌, length}
-use Rattle.batch_runner.proofs.listing.desks.Given as goal
+use Rattle.batch_runner.proofs.running.desks.Given as goal
 
 abbrev pub invariant-loop : goal.invariant-loop
 invariant-loop l = length l.all.items ≡ l.counter
