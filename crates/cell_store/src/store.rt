@@ -4,7 +4,7 @@ ghost use Rattle.cell_store.specs.Cells.{a_wide, word_in, wide_in, text_over, no
 ghost use Rattle.cell_store.specs.Words.{word_of, is_wide};
 ghost use Rattle.cell_store.specs.Held.{word_cell};
 ghost use Rattle.value_ops.specs.Strings.{filled};
-ghost use Rattle.cell_store.specs.Stores.{empty, cells_allowed, with_cells, with_cell_at, array_allowed, new_array, array_cells, entered, text_allowed, newest, left, cut_back};
+ghost use Rattle.cell_store.specs.Stores.{empty, cells_allowed, with_cells, with_cell_at, array_allowed, new_array, array_cells, entered, text_allowed, is_below as below, newest, left, cut_back};
 
 use crate::cells::{Wide, Word};
 use crate::descriptor::Descriptor;
@@ -341,7 +341,7 @@ impl Store {
     }
 
     /// A text runs: its frame and its mark are the newest. L4 exactly where it counts and the depth is 2,000; otherwise it
-    /// is refused exactly where there is no room.
+    /// is refused exactly where there is no room, or its link names no text below it.
     pub fn enter(&mut self, frame: Frame, mark: Entry) -> Result<(), Refusal>
         ensures answer { result ≡ text_allowed frame self.old }
         ensures entered { OnOk result (self.new ≡ entered frame mark self.old) }
@@ -353,6 +353,9 @@ impl Store {
         }
         let number = self.answers.len();
         if number >= self.answers.room() || self.entries.len() >= self.entry_room as usize {
+            return Err(Refusal::NoRoom);
+        }
+        if !is_below(frame.link, number) {
             return Err(Refusal::NoRoom);
         }
         self.entries.push_reserved(mark);
@@ -426,5 +429,16 @@ impl Store {
         ensures { self.new ≡ record self.old { answers = slice_set self.old.answers at (a_wide held.now) } }
     {
         self.answers.set_wide(at, held);
+    }
+}
+
+/// Whether a link names the program or a text that lies below.
+#[inline(always)]
+fn is_below(link: Option<u32>, number: u32) -> bool
+    ensures { result ≡ below link number }
+{
+    match link {
+        None => true,
+        Some(text) => text < number,
     }
 }

@@ -263,14 +263,14 @@ module _ (program : List Coded) (w : World) (b : Base) (arrays : List (Option Ar
 module _ (set : Setting) (program : Code) where
   -- everything above a text's frame is given back: its entries and its cells, however many
   pub closed_over : (b bo : Base) (h : Heap) (s : State Bodied) (k : ℕ) (f : Frame) (held : Content) (counts : Bool) → Over b bo → bo.current ≡ b.current → f.start ≡ length b.entries → f.base ≡ length b.slots →
-      record (mach bo h s k held) { frames = b.frames; entries = lowest bo.entries f.start; cells = lowest (map (content_of s.memory) bo.slots) f.base; depth = doing.less counts s.depth } ≡ mach b h (ended_state counts s) k held
+      record (mach bo h s k held) { frames = b.frames; display = doing.outwards b.frames bo.current; entries = lowest bo.entries f.start; cells = lowest (map (content_of s.memory) bo.slots) f.base; depth = doing.less counts s.depth } ≡ mach b h (ended_state counts s) k held
   closed_over b bo h s k f held counts o ec es eb =
       ap (λ l. record m0 { entries = l; cells = lowest (map (content_of s.memory) bo.slots) f.base }) (ap (lowest bo.entries) es ∙ ap (λ l. lowest l (length b.entries)) o.entries_are ∙ lowest_append o.entries b.entries)
       ∙ ap (λ l. record m0 { entries = b.entries; cells = l }) cells_are
-      ∙ ap (λ t. record m0 { entries = b.entries; cells = map (content_of s.memory) b.slots; current = t }) ec
+      ∙ ap (λ t. record m0 { entries = b.entries; cells = map (content_of s.memory) b.slots; current = t; display = doing.outwards b.frames t }) ec
     where
       m0 : Machine
-      m0 = record (mach bo h s k held) { frames = b.frames; depth = doing.less counts s.depth }
+      m0 = record (mach bo h s k held) { frames = b.frames; display = doing.outwards b.frames bo.current; depth = doing.less counts s.depth }
 
       cells_are : lowest (map (content_of s.memory) bo.slots) f.base ≡ map (content_of s.memory) b.slots
       cells_are = ap (lowest (map (content_of s.memory) bo.slots)) eb ∙ ap (λ l. lowest (map (content_of s.memory) l) (length b.slots)) o.slots_are ∙ ap (λ l. lowest l (length b.slots)) (map_append (content_of s.memory) o.slots b.slots)
@@ -281,7 +281,7 @@ module _ (set : Setting) (program : Code) where
       Comes set program (mach (record bo { frames = f ∷ frames; current = Some (length (f ∷ frames) - 1) }) h s k held) (mach (record bo { frames = record f { answer = held } ∷ frames; current = f.text }) h s f.back held)
   returned_from bo frames h s k held f w q = one_row set program m0 (mach (record bo { frames = record f { answer = held } ∷ frames; current = f.text }) h s f.back held) (record { at = w; does = instr.Return }) q
       (ap (λ o. doing.after (doing.there o m0) doing.go_back) (newest_at f frames)
-      ∙ ap (λ l. doing.on tt (record (mach (record bo { frames = record f { answer = held } ∷ frames; current = f.text }) h s f.back held) { frames = l })) (replaced_newest f (record f { answer = held }) frames (length (f ∷ frames) - 1) (omega arith)))
+      ∙ ap (λ l. doing.on tt (record (mach (record bo { frames = record f { answer = held } ∷ frames; current = f.text }) h s f.back held) { frames = l; display = doing.outwards l f.text })) (replaced_newest f (record f { answer = held }) frames (length (f ∷ frames) - 1) (omega arith)))
     where
       m0 : Machine
       m0 = mach (record bo { frames = f ∷ frames; current = Some (length (f ∷ frames) - 1) }) h s k held
@@ -291,7 +291,7 @@ module _ (set : Setting) (program : Code) where
       bo.frames ≡ record { back = back; text = b.current; link = link; start = start; base = base; purpose = state.for_value; type = None; head = head; counts = true; answer = answer } ∷ b.frames → Comes set program (mach bo h s k held) (mach b h (ended_state true s) (k + 1) answer)
   call_ended b bo h s k back start base head link answer held w q o ec es eb ef = one_row set program (mach bo h s k held) (mach b h (ended_state true s) (k + 1) answer) (record { at = w; does = instr.End }) q
       (ap (λ l. doing.after (doing.newest l (mach bo h s k held)) (λ g. finished g)) ef
-      ∙ ap (λ l. doing.on tt (record (mach bo h s k held) { pc = k + 1; held = answer; frames = without_newest l; entries = lowest bo.entries start; cells = lowest (map (content_of s.memory) bo.slots) base; depth = s.depth - 1 })) ef
+      ∙ ap (λ l. doing.on tt (record (mach bo h s k held) { pc = k + 1; held = answer; frames = without_newest l; display = doing.outwards (without_newest l) bo.current; entries = lowest bo.entries start; cells = lowest (map (content_of s.memory) bo.slots) base; depth = s.depth - 1 })) ef
       ∙ ap (λ m. doing.on tt (record m { pc = k + 1; held = answer })) (closed_over b bo h s k f held true o ec es eb))
     where
       f : Frame

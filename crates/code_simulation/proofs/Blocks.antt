@@ -367,8 +367,8 @@ module _ (set : Setting) (program : Code) (later : Job → M Bodied state.Given)
       ∙ ap (λ z. doing.after (doing.after (there z (record m0 { cells = lowest m0.cells (length b.slots) })) (λ i. doing.cut_entries (i + position))) (λ z. go_on)) st
       ∙ ap (λ z. doing.on tt (record m0 { pc = k + 1; cells = z; entries = lowest b3.entries (start + position) })) cells_are
       ∙ ap (λ z. doing.on tt (record m0 { pc = k + 1; cells = map (content_of s.memory) b.slots; entries = z })) (ap (lowest b3.entries) q ∙ ap (λ z. lowest z (length b.entries)) o.entries_are ∙ lowest_append o.entries b.entries)
-      ∙ ap (λ z. doing.on tt (record m0 { pc = k + 1; cells = map (content_of s.memory) b.slots; entries = b.entries; frames = z })) ef
-      ∙ ap (λ z. doing.on tt (record m0 { pc = k + 1; cells = map (content_of s.memory) b.slots; entries = b.entries; frames = b.frames; current = z })) ec
+      ∙ ap (λ z. doing.on tt (record m0 { pc = k + 1; cells = map (content_of s.memory) b.slots; entries = b.entries; frames = z; display = doing.outwards z b3.current })) ef
+      ∙ ap (λ z. doing.on tt (record m0 { pc = k + 1; cells = map (content_of s.memory) b.slots; entries = b.entries; frames = b.frames; current = z; display = doing.outwards b.frames z })) ec
     where
       m0 : Machine
       m0 = mach b3 h s k held

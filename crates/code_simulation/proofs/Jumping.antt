@@ -45,13 +45,13 @@ pub cut_is : (program : List Coded) (b : Base) (h : Heap) (s : State Bodied) (k 
 cut_is program b h s k item kept held t x q =
     ap (λ l. doing.on tt (record m0 { entries = l; cells = lowest cells (length t.base.slots); frames = lowest b.frames (length t.base.frames) })) (ap (lowest b.entries) q ∙ ap (λ l. lowest l (length t.base.entries)) x.entries_are ∙ lowest_append x.entries t.base.entries)
     ∙ ap (λ l. doing.on tt (record m0 { entries = t.base.entries; cells = l; frames = lowest b.frames (length t.base.frames) })) cells_are
-    ∙ ap (λ l. doing.on tt (record m0 { entries = t.base.entries; cells = map (content_of s.memory) t.base.slots; frames = l })) (ap (λ l. lowest l (length t.base.frames)) x.frames_are ∙ lowest_append x.frames t.base.frames)
+    ∙ ap (λ l. doing.on tt (record m0 { entries = t.base.entries; cells = map (content_of s.memory) t.base.slots; frames = l; display = outwards l t.base.current })) (ap (λ l. lowest l (length t.base.frames)) x.frames_are ∙ lowest_append x.frames t.base.frames)
   where
     cells : List Content
     cells = map (content_of s.memory) b.slots
 
     m0 : Machine
-    m0 = record (mach b h s item machine.nothing) { depth = t.made.depth; current = t.base.current }
+    m0 = record (mach b h s item machine.nothing) { depth = t.made.depth; current = t.base.current; display = outwards (lowest b.frames (length t.base.frames)) t.base.current }
 
     cells_are : lowest cells (length t.base.slots) ≡ map (content_of s.memory) t.base.slots
     cells_are = ap (λ l. lowest (map (content_of s.memory) l) (length t.base.slots)) x.slots_are ∙ ap (λ l. lowest l (length t.base.slots)) (map_append (content_of s.memory) x.slots t.base.slots)

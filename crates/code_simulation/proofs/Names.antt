@@ -62,7 +62,7 @@ wanted_is the_place u b h s k held e = ap (λ z. doing.on z (mach b h s k held))
 wanted_is as_asked u b h s k held e = current_wanted (mach b h s k held) b.current u e
 
 module _ (b : Base) (h : Heap) (s : State Bodied) (k : ℕ) (held : Content) (c : Context) (name : Stand) (slot : Slot) (x : HasEntry b name c.level b.current slot) where
-  pub entry_is : doing.entry_from b.frames b.entries b.current (links c name) name.position ≡ Some x.entry
+  pub entry_is : doing.entry_from b.frames b.entries (doing.outwards b.frames b.current) (links c name) name.position ≡ Some x.entry
   entry_is = ap (λ o. entry_on b.entries o name.position) x.starts ∙ x.stands
 
   pub cell_is : doing.cell_out (links c name) name.position (mach b h s k held) ≡ doing.on x.cell (mach b h s k held)

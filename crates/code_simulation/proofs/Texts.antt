@@ -107,15 +107,15 @@ module _ (set : Setting) (program : Code) where
   pub returned : (b : Base) (h : Heap) (s : State Bodied) (k : ℕ) (held : Content) (f : Frame) (e : Entry) (w : Place) → slice_get program.instructions k ≡ Some (record { at = w; does = instr.Return }) → Comes set program (mach (inside f e b) h s k held) (mach (answered_in f e held b) h s f.back held)
   returned b h s k held f e w q = one_row set program (mach (inside f e b) h s k held) (mach (answered_in f e held b) h s f.back held) (record { at = w; does = instr.Return }) q
       (ap (λ o. doing.after (there o (mach (inside f e b) h s k held)) doing.go_back) (newest_at f b.frames)
-      ∙ ap (λ l. doing.on tt (record (mach (answered_in f e held b) h s f.back held) { frames = l })) (replaced_newest f (record f { answer = held }) b.frames (length (f ∷ b.frames) - 1) (omega arith)))
+      ∙ ap (λ l. doing.on tt (record (mach (answered_in f e held b) h s f.back held) { frames = l; display = outwards l f.text })) (replaced_newest f (record f { answer = held }) b.frames (length (f ∷ b.frames) - 1) (omega arith)))
 
   -- everything of the newest frame is given back
   pub closed : (b : Base) (h : Heap) (s : State Bodied) (k : ℕ) (x : Content) (f : Frame) (e : Entry) (held : Content) → f.text ≡ b.current → f.start ≡ length b.entries → f.base ≡ length b.slots →
-      record (mach (answered_in f e x b) h s k held) { frames = b.frames; entries = lowest (e ∷ b.entries) f.start; cells = lowest (map (content_of s.memory) b.slots) f.base; depth = doing.less f.counts s.depth } ≡ mach b h (ended_state f.counts s) k held
+      record (mach (answered_in f e x b) h s k held) { frames = b.frames; display = outwards b.frames f.text; entries = lowest (e ∷ b.entries) f.start; cells = lowest (map (content_of s.memory) b.slots) f.base; depth = doing.less f.counts s.depth } ≡ mach b h (ended_state f.counts s) k held
   closed b h s k x f e held et es eb =
-      ap (λ l. record m0 { frames = b.frames; entries = l; cells = lowest cells f.base; depth = doing.less f.counts s.depth }) entries_are
-      ∙ ap (λ l. record m0 { frames = b.frames; entries = b.entries; cells = l; depth = doing.less f.counts s.depth }) cells_are
-      ∙ ap (λ t. record m0 { frames = b.frames; entries = b.entries; depth = doing.less f.counts s.depth; current = t }) et
+      ap (λ l. record m0 { frames = b.frames; display = outwards b.frames f.text; entries = l; cells = lowest cells f.base; depth = doing.less f.counts s.depth }) entries_are
+      ∙ ap (λ l. record m0 { frames = b.frames; display = outwards b.frames f.text; entries = b.entries; cells = l; depth = doing.less f.counts s.depth }) cells_are
+      ∙ ap (λ t. record m0 { frames = b.frames; entries = b.entries; depth = doing.less f.counts s.depth; current = t; display = outwards b.frames t }) et
     where
       m0 : Machine
       m0 = mach (answered_in f e x b) h s k held

@@ -70,6 +70,7 @@ mach b h s next held = record {
   entries = b.entries;
   frames = b.frames;
   current = b.current;
+  display = outwards b.frames b.current;
   depth = s.depth;
   records = h.records;
   fields = map (field_of s.memory) h.fields;

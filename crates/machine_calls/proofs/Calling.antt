@@ -22,7 +22,7 @@ use Rattle.stack_code.specs.declared.heads.ProcedureHead.{ProcedureHead}
 use Rattle.stack_code.specs.CodeView.{formal_view, procedure_view}
 use Rattle.stack_code.specs.Limits.{ProcedureRuns, FormalRuns}
 use Rattle.stack_code.specs.Machine.{Machine, Frame, a_call}
-use Rattle.stack_code.specs.Doing.{Next, on, halted, Row, ◌>>◌, ◌>>=◌, there, deeper, here, cells_now, open_frame, enter, frame_for, run_newest, go_to, most_entries}
+use Rattle.stack_code.specs.Doing.{outwards, Next, on, halted, Row, ◌>>◌, ◌>>=◌, there, deeper, here, cells_now, open_frame, enter, frame_for, run_newest, go_to, most_entries}
 use Rattle.stack_code.specs.Table as table
 use Rattle.stack_code.specs.Table.{enter_formals}
 use Rattle.machine_rows.specs.declared.held.Halt.{Halt}
@@ -137,7 +137,7 @@ module _ (v : Seen) (s : State) (h : Held) (st : Stands v s) (site : Place) (p :
     entries_are = sym (ap reverse (map-append (entry_of v.code.given) (s.store.entries ++ entry.Call p.head site ∷ []) (formal_entries base fs)) ∙ on_top (map (entry_of v.code.given) (s.store.entries ++ entry.Call p.head site ∷ [])) (map (entry_of v.code.given) (formal_entries base fs)) [])
 
     m3 : Machine
-    m3 = record m2 { current = Some (length (F ∷ m1.frames) - 1); pc = p.head + 1 }
+    m3 = record m2 { current = Some (length (F ∷ m1.frames) - 1); display = outwards (F ∷ m1.frames) (Some (length (F ∷ m1.frames) - 1)); pc = p.head + 1 }
 
     body_is : body m1 ≡ on tt (machine_of (record v { pc = p.head + 1 }) (record s { store = body_store }) h)
     body_is =

@@ -18,6 +18,6 @@ closure_is g head None = refl
 closure_is g head (Some link) = refl
 
 pub source_found : (v : Seen) (s : State) (h : Held) → length s.store.frames ≡ length s.store.answers → (x : Source) →
-    doing.source_from (machine_of v s h).frames (machine_of v s h).entries (machine_of v s h).cells s.store.current (source_view x) ≡ option_map (content_of v.code.given) (source_out s.store x)
+    doing.source_from (machine_of v s h).frames (machine_of v s h).entries (machine_of v s h).cells (machine_of v s h).display (source_view x) ≡ option_map (content_of v.code.given) (source_out s.store x)
 source_found v s h e (source.Entry links position) = content_found v s h e links position
 source_found v s h e (source.Head links head) = ap (doing.closure_from head) (outwards_is v.code.given s.store.frames s.store.answers e s.store.current links) ∙ closure_is v.code.given head (outwards s.store.frames s.store.current links)

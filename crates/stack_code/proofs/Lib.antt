@@ -6,3 +6,4 @@ pub mod Linked
 pub mod Numbers
 pub mod Limited
 pub mod Sets
+pub mod Displays

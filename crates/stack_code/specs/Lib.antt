@@ -6,6 +6,7 @@ pub mod Table
 pub mod Run
 pub mod Ending
 pub mod GoingOn
+pub mod Displays
 pub mod Laws
 pub mod CodeView
 pub mod Making

@@ -1,3 +1,4 @@
+ghost use Rattle.stack_code.specs.Displays.{DisplaysAreLinks};
 ghost use Rattle.stack_code.specs.Ending.{OutcomesAreOne, RowsAreNotStuck};
 ghost use Rattle.stack_code.specs.Laws.{OutcomesStay};
 ghost use Rattle.stack_code.specs.Made.{CodeIsMade, NumbersAreTold};
@@ -28,4 +29,10 @@ pub fn code_is_made()
 /// a class is in a set exactly where its number is.
 pub fn numbers_are_told()
     ensures { NumbersAreTold }
+{}
+
+/// In every machine that the rows of a code reach, the display has the texts that walking the links gives: so many levels out
+/// the text so many links out, and at level 0 the program.
+pub fn displays_are_links()
+    ensures { DisplaysAreLinks }
 {}

@@ -16,6 +16,7 @@ pub use heads::{
 };
 pub use instructions::{Coded, Constant, Instr, Mode, Purpose, Source, UnaryOp};
 pub use laws::{
-    code_is_made, numbers_are_told, outcomes_are_one, outcomes_stay, rows_are_not_stuck,
+    code_is_made, displays_are_links, numbers_are_told, outcomes_are_one, outcomes_stay,
+    rows_are_not_stuck,
 };
 pub use types::{is_same, is_variable_of};
