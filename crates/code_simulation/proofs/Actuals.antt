@@ -31,7 +31,7 @@ use Rattle.stack_code.specs.Machine.{Thunk}
 use Rattle.phrase_code.specs.Sizes.{text_size}
 use Rattle.phrase_code.specs.Coding.{inner_text, text_code, hand_on_code, source_by, stars_of, subarray_code}
 use Rattle.code_simulation.specs.Written.{IsWritten}
-use Rattle.code_simulation.specs.Relation.{LiveProcedure, HasText}
+use Rattle.code_simulation.specs.Relation.{LiveProcedure, HasText, IsUnderWay}
 use Rattle.code_simulation.proofs.Sizes.{code_sized, text_sized, hand_on_sized, subarray_sized, subscripts_sized}
 use Rattle.code_simulation.proofs.Keeping.{Later, array_later, shows_later}
 use Rattle.code_simulation.proofs.Making.{made_alike}
@@ -42,7 +42,7 @@ use Rattle.code_simulation.proofs.Scopes.{joined_code}
 use Rattle.code_simulation.proofs.Subarrays.{ArrayReady, EachStar, subarray_follows}
 use Rattle.phrase_code.specs.Marks.{marks, subscripts_marks}
 use Rattle.code_simulation.specs.Room.{Fits}
-use Rattle.code_simulation.proofs.Keeping.{as_few}
+use Rattle.code_simulation.proofs.Keeping.{as_few, under_way_later, runs_under_way}
 use Rattle.code_simulation.proofs.Values.{push_below}
 use Rattle.std.specs.Prelude.{◌<◌, ◌≤◌}
 use Rattle.code_simulation.proofs.Counting.{push_within}
@@ -53,7 +53,7 @@ ReadyAs program w b arrays (with_value v) (machine.a_value u) = v ≡ u
 ReadyAs program w b arrays without_value machine.nothing = Unit {0}
 ReadyAs program w b arrays (put_for (to_array k given)) (machine.an_array a free) = (given ≡ free) × HasArray b arrays k a
 ReadyAs program w b arrays (put_for (to_procedure k)) (machine.a_procedure q) = (p : LiveProcedure) × Has p w.procedures × (k ≡ p.number) × (q ≡ record { head = p.head; link = p.link })
-ReadyAs program w b arrays (put_for (thunk m a e)) (machine.a_thunk t) = (c : Context) × HasText program t m a c × Shows program w b arrays e c.names c.level t.link × (marks a ≤ w.marks)
+ReadyAs program w b arrays (put_for (thunk m a e)) (machine.a_thunk t) = (c : Context) × HasText program t m a c × Shows program w b arrays e c.names c.level t.link × (marks a ≤ w.marks) × IsUnderWay b.frames t.link
 ReadyAs program w b arrays r x = ⊥
 
 -- what is ready stays so on a later machine
@@ -62,7 +62,7 @@ ready_later program l (with_value v) (machine.a_value u) q = q
 ready_later program l without_value machine.nothing q = tt
 ready_later program l (put_for (to_array k given)) (machine.an_array a free) q = (q.0, array_later l k a q.1)
 ready_later program l (put_for (to_procedure k)) (machine.a_procedure p) q = (q.0, l.procedures q.0 q.1, q.2, q.3)
-ready_later program l (put_for (thunk m a e)) (machine.a_thunk t) q = (q.0, q.1, shows_later program l e (q.0).names (q.0).level t.link q.2, as_few l q.3)
+ready_later program l (put_for (thunk m a e)) (machine.a_thunk t) q = (q.0, q.1, shows_later program l e (q.0).names (q.0).level t.link q.2, as_few l q.3, under_way_later l t.link q.4)
 ready_later program l r x q = absurd q
 
 module _ (set : Setting) (program : Code) (later : Job → M Bodied state.Given) where
@@ -133,7 +133,7 @@ module _ (set : Setting) (program : Code) (later : Job → M Bodied state.Given)
       (follows_from set program R w.targets h s h s (mach b h s kt held) (mach b h s (kt + 1) x) all (one_row set program (mach b h s kt held) (mach b h s (kt + 1) x) _ has1.0 refl) (grew_here h s)
       (push_below set program R w.targets w b h s (kt + 1) x at (λ z. F r) has1.1.0 l.agrees (λ few.
       subst (λ n. Follows set program R w.targets h (with_cells (s.cells + 1) s) (mach (pushed x b) h s n x) (F r (with_cells (s.cells + 1) s))) (sym ek)
-      (g r x h s x (c, tx, l.shows, fw) (grew_here h s) refl l few))))
+      (g r x h s x (c, tx, l.shows, fw, runs_under_way l) (grew_here h s) refl l few))))
 
   -- ---- one that is a name alone, for an array or a procedure formal
 
@@ -185,7 +185,7 @@ module _ (set : Setting) (program : Code) (later : Job → M Bodied state.Given)
       there_is : (κ : Rattle.phrase_code.specs.Sizes.Kind) → name.kind ≡ κ → source_by κ (links c name) name ≡ Rattle.stack_code.specs.Instr.from_entry (links c name) name.position → Follows set program Q w.targets h s (mach b h s k held) (procedure_handed at (Some (thunk m a env)) s)
       there_is κ q y = follows_on set program Q w.targets h s (mach b h s k held) (mach b h s (k + 1) x) (put_for (thunk m a env)) (one_row set program (mach b h s k held) (mach b h s (k + 1) x) _ code.0
           (ap (λ κ. does set program at (instr.HandOn (source_by κ (links c name) name)) (mach b h s k held)) q ∙ ap (λ z. does set program at (instr.HandOn z) (mach b h s k held)) y ∙ ap (λ o. doing.after (doing.after (doing.after o Rattle.stack_code.specs.Table.handed) doing.hold) (λ z. go_on)) (content_is b h s k held c name _ f.2)))
-          (x, refl, refl, refl, (f.3, f.4, f.5, f.6))
+          (x, refl, refl, refl, (f.3, f.4, f.5, f.6, f.7))
 
       either : ((name.kind ≡ Rattle.phrase_code.specs.Sizes.a_name_formal) ⊎ (name.kind ≡ Rattle.phrase_code.specs.Sizes.a_procedure_formal)) → Follows set program Q w.targets h s (mach b h s k held) (procedure_handed at (Some (thunk m a env)) s)
       either (inl q) = there_is Rattle.phrase_code.specs.Sizes.a_name_formal q refl

@@ -20,7 +20,7 @@ use Rattle.code_simulation.specs.Relation.{HasAt, Base, Heap, mach, World, Targe
 use Rattle.code_simulation.specs.Following.{Follows, Gives, Reached, PhraseFollows}
 use Rattle.code_simulation.proofs.Stacks.{has_front, has_back, length_map}
 use Rattle.code_simulation.proofs.Rows.{one_row, follows_from, follows_then, grew_here}
-use Rattle.code_simulation.proofs.Keeping.{pushed, with_cells, agrees_on}
+use Rattle.code_simulation.proofs.Keeping.{pushed, with_cells, agrees_on, runs_under_way}
 use Rattle.code_simulation.proofs.Values.{follows_at}
 use Rattle.code_simulation.proofs.Operators.{at_reached, gives_as}
 use Rattle.program_meaning.specs.Environments.{Ready, with_value, value_ready}
@@ -36,7 +36,7 @@ use Rattle.code_simulation.proofs.Cells.{follows_plain}
 use Rattle.code_simulation.proofs.Actuals.{ReadyAs, GoesOnReady}
 use Rattle.phrase_code.specs.Marks.{marks}
 use Rattle.code_simulation.specs.Room.{Fits}
-use Rattle.code_simulation.proofs.Room.{fits_aside, room_for_frame, room_for_entry, text_in_room}
+use Rattle.code_simulation.proofs.Room.{fits_aside, room_for_frame, room_for_entry, link_is_below, text_in_room}
 use Rattle.code_simulation.proofs.Values.{push_below}
 
 -- a value is held that is ready
@@ -58,7 +58,7 @@ module _ (set : Setting) (program : Code) (later : Job → M Bodied state.Given)
       let kb = head + 1 + size (known c) a in
       let ag = l.agrees in
       let li : At program.instructions w bi h s (inner_text c) e = inside_at program.instructions w b h s s c e fr x ag (grew_here h s) refl refl refl refl refl refl l.shows (listed_later program.instructions (later_over w b bi s.arrays s.arrays (over_inside fr x b) (λ j z i. i)) b.entries [] s.active ag.listed) in
-      text_in_room set program R w.targets b h s k held (mach b h s k held) (record { at = at; does = does_it }) (k + 1) n head (head + 1) b.current u type false x (after (go set later a u at e s) f) (room_for_frame ft) (room_for_entry ft) i row
+      text_in_room set program R w.targets b h s k held (mach b h s k held) (record { at = at; does = does_it }) (k + 1) n head (head + 1) b.current u type false x (after (go set later a u at e s) f) (link_is_below b.frames b.current (runs_under_way l)) (room_for_frame ft) (room_for_entry ft) i row
       (follows_then set program (Gives bi s.active kb) R w.targets h s (mach bi h s (head + 1) held) (go set later a u at e s) f
       (p.by u at w bi h s (inner_text c) e as_asked (head + 1) held body (ap asked (newest_at fr b.frames)) li (fits_aside fr ft))
       (λ r h4 s4 m4 q g4. let y = q.held in let pr = q.reached in

@@ -151,7 +151,7 @@ module _ (program : List Coded) (w : World) (b : Base) (arrays : List (Option Ar
   entry f position cell slot p q = own_entry program w b arrays level text start starts (record { place = f.name.place; kind = kind_of_formal f.is; level = level; position = position; target = 0 }) (name_of f.is f.name.text cell) cell slot refl p (cell_of_name f.is f.name.text cell) q
 
   thing_means : (f : Formal) (t : Thing) (x : Content) (position cell : ℕ) → on_top_of b.entries (start + position) ≡ Some (name_of f.is f.name.text cell) → on_top_of b.slots cell ≡ Some (fixed x) → ThingIs program w b arrays f.is t x → Means program w b arrays t (record { place = f.name.place; kind = kind_of_formal f.is; level = level; position = position; target = 0 }) level text
-  thing_means f (thunk m a e) x position cell p q y = (y.0, y.1, entry f position cell (fixed (machine.a_thunk y.1)) p (q ∙ ap (λ z. Some (fixed z)) y.2), y.3, y.4, y.5, y.6)
+  thing_means f (thunk m a e) x position cell p q y = (y.0, y.1, entry f position cell (fixed (machine.a_thunk y.1)) p (q ∙ ap (λ z. Some (fixed z)) y.2), y.3, y.4, y.5, y.6, y.7)
   thing_means f (to_array k given) x position cell p q y = (y.0, y.1, entry f position cell (fixed (machine.an_array y.1 given)) p (q ∙ ap (λ z. Some (fixed z)) y.2), y.3)
   thing_means f (to_procedure k) x position cell p q y = inr (record { procedure = y.1; has = y.2; number = y.3; kind = y.0; entry = entry f position cell (fixed (machine.a_procedure (record { head = y.1.head; link = y.1.link }))) p (q ∙ ap (λ z. Some (fixed z)) y.4) })
   thing_means f (to_constant v) x position cell p q y = absurd y

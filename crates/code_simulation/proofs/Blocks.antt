@@ -295,7 +295,7 @@ module _ (set : Setting) (program : Code) (later : Job → M Bodied state.Given)
       settled = settled_in b' b3 h' s'.memory s'.records s'.fields refl (λ i z. z) d.settled;
       cells = d.cells;
       listed = listed_later program.instructions l3 b'.entries [] s'.active (subst (Listed program.instructions b' s'.arrays b'.entries []) (sym d.is) d.listed);
-      lives = λ q i. lives q (live_own program.instructions w3 b3 s' (with_entries 1 c) ci b'.current at env (length s.procedures) k decls w.procedures more dw fm code (λ j x y. pr (length s.procedures + j) x (get_behind s.procedures (bodied_procedures at env decls) j ∙ y)) sh q i);
+      lives = λ q i. lives q (live_own program.instructions w3 b3 s' (with_entries 1 c) ci b'.current at env (length s.procedures) k decls w.procedures more dw fm code (λ j x y. pr (length s.procedures + j) x (get_behind s.procedures (bodied_procedures at env decls) j ∙ y)) sh (record { start = l.start; starts = st }) q i);
       above = λ t i. above t (own_or_outer K made b3 made.first ki items w.targets t i);
       deep = d.grew.deep l.agrees.deep;
     };

@@ -31,7 +31,7 @@ use Rattle.code_simulation.proofs.Joining.{entries_there, ready_down, ready_late
 use Rattle.code_simulation.specs.Room.{Fits}
 use Rattle.code_simulation.specs.UnderWay.{names_in, texts_in, IsDeep}
 use Rattle.program_meaning.specs.State.{most_cells, most_depth}
-use Rattle.code_simulation.proofs.Room.{room_for_frame, room_for_entry, texts_below, marks_few_in_text, frame_in_room, enter_in_room, formals_in_room}
+use Rattle.code_simulation.proofs.Room.{room_for_frame, room_for_entry, texts_below, marks_few_in_text, link_is_below, opened_is, frame_in_room, enter_in_room, formals_in_room}
 
 -- the frame of a call from here
 abbrev pub call_frame : Base → (back head : ℕ) → (link : Option ℕ) → Frame
@@ -186,7 +186,7 @@ module _ (set : Setting) (program : Code) where
       tick_then set program R w.targets bp h s k held m0 i (doing.deeper >> body) (λ z. state.◌>>◌ (state.deeper at) (state.◌>>=◌ (bound at fs rs) G)) has row ls st
       (λ d1. deeper_then set program R w.targets bp h (ticked s) k held m0 i body (λ z. state.◌>>=◌ (bound at fs rs) G) has d1 ls st
       (λ dq d2. let tb = texts_below program.instructions bp s ls dp dq in subst (λ z. Follows set program R w.targets h s1 m0 (after z G)) (sym (bound_is program.instructions w bp s.arrays at fs rs xs s1 rd))
-      (frame_in_room set program m0 m1 i f rest (room_for_frame ft) (d2 ∙ based)
+      (frame_in_room set program m0 m1 i f rest (room_for_frame ft) (d2 ∙ based ∙ opened_is program.marks (k + 1) (length b.slots) q.head q.link for_value None Rattle.std.specs.Prelude.true rest m1 (link_is_below b.frames q.link ld.under_way))
       (λ d3. enter_in_room set program m0 (record m1 { frames = f ∷ b.frames }) i (machine.a_call q.head site) (enter_formals program.marks (length b.slots) fs >> last) (room_for_entry ft) d3
       (λ d4. formals_in_room set program m0 i last fs (length b.slots) (record m1 { frames = f ∷ b.frames; entries = machine.a_call q.head site ∷ b.entries }) few (marks_few_in_text ft tb) d4
       (λ d5. follows_from set program R w.targets h s1 h s2 m0 m2 (G (bound_of (length s.memory) fs rs) s2) (one_row set program m0 m2 i has (d5 ∙ there_is)) (grew_bound h s1 s2 (new_values rs) refl refl refl refl (λ d. d)) (g tb)))))))

@@ -17,7 +17,7 @@ use Rattle.stack_code.specs.Doing as doing
 use Rattle.stack_code.specs.Table.{does, compare, use_without}
 use Rattle.phrase_code.specs.Sizes.{Kind, a_name_formal, a_procedure_formal, call_kind, CallKind, through, call_size, size, begin_size, texts_size, prepares_size, place_backs_size, actuals_size, backs_size}
 use Rattle.phrase_code.specs.Coding.{Stand, Context, known, one, ◌▸◌, links, stand_at, kind_of_stand, source_by, source_of, code, code_actuals, code_backs, code_texts, text_heads, prepares_code, place_backs_code, end_of_call, call_code, through_code, with_entries}
-use Rattle.code_simulation.specs.Relation.{HasAt, Has, LiveProcedure, fixed, Base, Heap, mach, World, HasEntry, HasText, Shows, At}
+use Rattle.code_simulation.specs.Relation.{HasAt, Has, LiveProcedure, fixed, Base, Heap, mach, World, HasEntry, HasText, IsUnderWay, Shows, At}
 use Rattle.code_simulation.specs.Following.{Comes, Follows, Gives, CodeDoes, PhraseFollows, LaterFollows}
 use Rattle.code_simulation.proofs.Stacks.{has_back}
 use Rattle.code_simulation.proofs.Sizes.{head_found, prepares_sized, place_backs_sized}
@@ -39,10 +39,10 @@ use Rattle.code_simulation.specs.Room.{Fits}
 module _ (set : Setting) (program : Code) where
   module _ (later : Job → M Bodied state.Given) (hl : LaterFollows set program later) (clean : (job : Job) (s : State Bodied) → IsClean job (later job s)) where
     -- a copied actual is called: a statement or an expression has no formals
-    thunk_called : (at : Place) (compares : Bool) (p : Place) (given : Actuals) (w : World) (b : Base) (h : Heap) (s : State Bodied) (c : Context) (e : Env) (k : ℕ) (held : Content) (name : Stand) (t : Thunk) (m : Mark) (a : Phrase) (ctx : Context) (f : Env) → source_of c name ≡ from_entry (links c name) name.position → HasEntry b name c.level b.current (fixed (machine.a_thunk t)) → HasText program.instructions t m a ctx → Shows program.instructions w b s.arrays f ctx.names ctx.level t.link → marks a ≤ w.marks →
+    thunk_called : (at : Place) (compares : Bool) (p : Place) (given : Actuals) (w : World) (b : Base) (h : Heap) (s : State Bodied) (c : Context) (e : Env) (k : ℕ) (held : Content) (name : Stand) (t : Thunk) (m : Mark) (a : Phrase) (ctx : Context) (f : Env) → source_of c name ≡ from_entry (links c name) name.position → HasEntry b name c.level b.current (fixed (machine.a_thunk t)) → HasText program.instructions t m a ctx → Shows program.instructions w b s.arrays f ctx.names ctx.level t.link → marks a ≤ w.marks → IsUnderWay b.frames t.link →
         HasAt program.instructions k (through_code c at compares p k given name (λ l. code_texts c at l given)) → At program.instructions w b h s c e → Fits program.marks w b (actuals_marks given) →
         Follows set program (Gives b s.active (end_of_call (known c) k given + 1)) w.targets h s (mach b h s k held) (after (no_actuals_given at given s) (λ z. copied set later for_value at m a f))
-    thunk_called at compares p given w b h s c e k held name t m a ctx f es x tx sh fw code l ft =
+    thunk_called at compares p given w b h s c e k held name t m a ctx f es x tx sh fw lk code l ft =
         follows_from set program R w.targets h s h s (mach b h s k held) m0 (after (no_actuals_given at given s) (λ z. copied set later for_value at m a f)) over.0 (grew_here h s) (which given refl)
       where
         end : ℕ
@@ -80,7 +80,7 @@ module _ (set : Setting) (program : Code) where
             ∙ ap (λ r. doing.after r (compare set program at compares heads end)) (content_is b h s kc held c name (fixed (machine.a_thunk t)) x)
 
         which : (g : Actuals) → g ≡ given → Follows set program R w.targets h s m0 (after (no_actuals_given at g s) (λ z. copied set later for_value at m a f))
-        which no_actuals q = copied_follows set program later hl for_value w b h s kc held m0 (i0 (text_heads (known c) k given)) end t m a ctx f l.agrees tx sh fw ft over.1.0 (row (text_heads (known c) k given) ∙ ap (λ g. use_without set program.marks end (text_heads (known c) k g) t m0) (sym q)) ends
+        which no_actuals q = copied_follows set program later hl for_value w b h s kc held m0 (i0 (text_heads (known c) k given)) end t m a ctx f l.agrees tx sh fw lk ft over.1.0 (row (text_heads (known c) k given) ∙ ap (λ g. use_without set program.marks end (text_heads (known c) k g) t m0) (sym q)) ends
         which (actual_and g rest) q = fault_here set program R w.targets h s m0 (i0 (text_heads (known c) k given)) fault.ActualsDoNotFit b kc held over.1.0 (row (text_heads (known c) k given) ∙ ap (λ g. use_without set program.marks end (text_heads (known c) k g) t m0) (sym q)) l.agrees.listed l.agrees.settled
 
     -- a procedure is called through whatever stands for it, up to its end as the size of the call tells it
@@ -136,7 +136,7 @@ module _ (set : Setting) (program : Code) where
 
         called : source_of c name ≡ from_entry (links c name) name.position → HasAt program.instructions k (through_code c at compares p k given name (λ l. code_texts c at l given)) → Follows set program (Gives b s.active (k + (texts_size (known c) given + (1 + (prepares_size given + (1 + (place_backs_size given + 1))))))) w.targets h s (mach b h s k held) (after (no_actuals_given at given s) (λ z. copied set later for_value at m a env))
         called es has = ends_at set program b s.active (end_of_call (known c) k given + 1) _ w.targets h s (mach b h s k held) (after (no_actuals_given at given s) (λ z. copied set later for_value at m a env)) (omega arith)
-            (thunk_called at compares p given w b h s c e k held name f.1 m a f.3 env es f.2 f.4 f.5 f.6 has l ft)
+            (thunk_called at compares p given w b h s c e k held name f.1 m a f.3 env es f.2 f.4 f.5 f.6 f.7 has l ft)
 
         by_kind : CallKind → Type 0
         by_kind z = HasAt program.instructions k (call_code c at compares p k given z (Some name) (λ formals. code_actuals c at k given formals) (λ formals. code_backs (with_entries (1 + length formals) c) at (k + actuals_size (known c) given formals + 1) 0 k given formals) (λ l. code_texts c at l given))

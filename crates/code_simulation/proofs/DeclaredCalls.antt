@@ -175,6 +175,7 @@ module _ (set : Setting) (program : Code) (later : Job → M Bodied state.Given)
             result = ld.result;
             back = ld.back;
             shows = shows_later program.instructions (later_over w b b s.arrays s1.arrays (over_same b) g1.arrays) ld.bodied.env q.context.names q.context.level q.link ld.shows;
+            under_way = ld.under_way;
           }
 
           bnd : Bound

@@ -22,7 +22,7 @@ use Rattle.code_simulation.proofs.Keeping.{Later, shows_later, array_later}
 use Rattle.code_simulation.proofs.Cells.{fixed_over, pushed_all, Heaped}
 use Rattle.code_simulation.proofs.Actuals.{ReadyAs}
 use Rattle.code_simulation.proofs.ActualLists.{AllReady, ActualsReady, EachActual, actuals_follow}
-use Rattle.code_simulation.proofs.Keeping.{as_few}
+use Rattle.code_simulation.proofs.Keeping.{as_few, under_way_later}
 use Rattle.phrase_code.specs.Marks.{actuals_marks}
 use Rattle.code_simulation.specs.Room.{Fits}
 use Rattle.program_meaning.specs.State.{most_cells}
@@ -117,7 +117,7 @@ ready_is program w b arrays f (with_value v) (machine.a_value u) e q = (q, ap ma
 ready_is program w b arrays f without_value machine.nothing e q = (q, refl)
 ready_is program w b arrays f (put_for (to_array k given)) (machine.an_array a free) e q = (q, a, ap (machine.an_array a) (sym e.0), e.1)
 ready_is program w b arrays f (put_for (to_procedure k)) (machine.a_procedure p) e q = (q, e.0, e.1, e.2, ap machine.a_procedure e.3)
-ready_is program w b arrays f (put_for (thunk m a env)) (machine.a_thunk t) e q = (q, t, refl, e.0, e.1, e.2, e.3)
+ready_is program w b arrays f (put_for (thunk m a env)) (machine.a_thunk t) e q = (q, t, refl, e.0, e.1, e.2, e.3, e.4)
 ready_is program w b arrays f r x e q = absurd e
 
 pub ready_are : (program : List Coded) (w : World) (b : Base) (arrays : List (Option ArrayInfo)) (fs : List Formal) (rs : List Ready) (xs : List Content) → AllReady program w b arrays rs xs → AllSuit fs rs → ReadyAre program w b arrays fs rs xs
@@ -229,10 +229,10 @@ module _ (program : List Coded) (w : World) (b : Base) (arrays : List (Option Ar
     means_down (to_label n) name level text x = let y = x.1 in (x.0, record { target = y.target; has = y.has; number = y.number; item = y.item; out = y.out; text_is = y.text_is; start = y.start; starts = y.starts; cut = y.cut; mark = y.mark })
     means_down (to_procedure k) name level text (inl y) = inl (record { procedure = y.procedure; has = y.has; number = y.number; kind = y.kind; head = y.head; out = y.out; text_is = y.text_is })
     means_down (to_procedure k) name level text (inr y) = inr (record { procedure = y.procedure; has = y.has; number = y.number; kind = y.kind; entry = entry_down name level text _ y.entry })
-    means_down (thunk m a e) name level text x = (x.0, x.1, entry_down name level text _ x.2, x.3, x.4, shows_down e x.3.names x.3.level x.1.link x.5, x.6)
+    means_down (thunk m a e) name level text x = (x.0, x.1, entry_down name level text _ x.2, x.3, x.4, shows_down e x.3.names x.3.level x.1.link x.5, x.6, x.7)
 
   thing_down : (f : FormalType) (t : Thing) (x : Content) → ThingIs program w (pushed_all xs b) arrays f t x → ThingIs program w b arrays f t x
-  thing_down f (thunk m a e) x y = (y.0, y.1, y.2, y.3, y.4, shows_down e y.3.names y.3.level y.1.link y.5, y.6)
+  thing_down f (thunk m a e) x y = (y.0, y.1, y.2, y.3, y.4, shows_down e y.3.names y.3.level y.1.link y.5, y.6, y.7)
   thing_down f (to_array k given) x y = (y.0, y.1, y.2, array_down k y.1 y.3)
   thing_down f (to_procedure k) x y = y
   thing_down f (to_constant v) x y = y
@@ -249,7 +249,7 @@ module _ (program : List Coded) (w : World) (b : Base) (arrays : List (Option Ar
 
 -- and on a later machine
 thing_later : {w w' : World} {b b' : Base} {arrays arrays' : List (Option ArrayInfo)} (program : List Coded) → Later w b arrays w' b' arrays' → (f : FormalType) (t : Thing) (x : Content) → ThingIs program w b arrays f t x → ThingIs program w' b' arrays' f t x
-thing_later program l f (thunk m a e) x y = (y.0, y.1, y.2, y.3, y.4, shows_later program l e y.3.names y.3.level y.1.link y.5, as_few l y.6)
+thing_later program l f (thunk m a e) x y = (y.0, y.1, y.2, y.3, y.4, shows_later program l e y.3.names y.3.level y.1.link y.5, as_few l y.6, under_way_later l y.1.link y.7)
 thing_later program l f (to_array k given) x y = (y.0, y.1, y.2, array_later l k y.1 y.3)
 thing_later program l f (to_procedure k) x y = (y.0, y.1, l.procedures y.1 y.2, y.3, y.4)
 thing_later program l f (to_constant v) x y = absurd y

@@ -10,7 +10,7 @@ use Rattle.stack_code.specs.Machine as machine
 use Rattle.stack_code.specs.Machine.{Machine, Content, Entry, Frame, Where, in_cell, in_field, on_top_of}
 use Rattle.stack_code.specs.Doing.{outwards, step_out, link_of, start_at, start_of}
 use Rattle.phrase_code.specs.Coding.{Stand, Context}
-use Rattle.code_simulation.specs.Relation.{Has, Slot, variable, fixed, Base, Heap, World, LiveProcedure, Target, Stands, HasEntry, HasArray, HasLabel, HasProcedure, HasProcedureFormal, Shows, Means, Lives, Shown, Listed, Settled, Above, Agrees, At, Grew}
+use Rattle.code_simulation.specs.Relation.{Has, Slot, variable, fixed, Base, Heap, World, LiveProcedure, Target, Stands, HasEntry, HasArray, HasLabel, HasProcedure, HasProcedureFormal, IsUnderWay, Shows, Means, Lives, Shown, Listed, Settled, Above, Agrees, At, Grew}
 use Rattle.code_simulation.specs.UnderWay.{IsDeep}
 use Rattle.code_simulation.proofs.Stacks.{top_append, top_less}
 
@@ -98,6 +98,9 @@ module _ {w : World} {b : Base} {arrays : List (Option ArrayInfo)} {w' : World} 
   pub as_few : {n : ℕ} → Later w b arrays w' b' arrays' → n ≤ w.marks → n ≤ w'.marks
   as_few l q = let m = l.marks in omega (arith, m, q)
 
+  pub under_way_later : Later w b arrays w' b' arrays' → (text : Option ℕ) → IsUnderWay b.frames text → IsUnderWay b'.frames text
+  under_way_later l text x = record { start = x.start; starts = start_later b.frames b'.frames l.frames (Some text) x.start x.starts }
+
   mutual
     pub shows_later : (program : List Coded) → Later w b arrays w' b' arrays' → (e : Env) (names : List Stand) (level : ℕ) (text : Option ℕ) → Shows program w b arrays e names level text → Shows program w' b' arrays' e names level text
     shows_later program l empty [] level text x = tt
@@ -112,7 +115,7 @@ module _ {w : World} {b : Base} {arrays : List (Option ArrayInfo)} {w' : World} 
     means_later program l (to_label n) name level text x = (x.0, label_later l n name level text x.1)
     means_later program l (to_procedure k) name level text (inl x) = inl (procedure_later l k name level text x)
     means_later program l (to_procedure k) name level text (inr x) = inr (procedure_formal_later l k name level text x)
-    means_later program l (thunk m a e) name level text x = (x.0, x.1, entry_later l name level text _ x.2, x.3, x.4, shows_later program l e x.3.names x.3.level x.1.link x.5, as_few l x.6)
+    means_later program l (thunk m a e) name level text x = (x.0, x.1, entry_later l name level text _ x.2, x.3, x.4, shows_later program l e x.3.names x.3.level x.1.link x.5, as_few l x.6, under_way_later l x.1.link x.7)
 
   pub lives_later : (program : List Coded) (s s' : State Bodied) → s.arrays ≡ arrays → s'.arrays ≡ arrays' → Later w b arrays w' b' arrays' → ((k : ℕ) (p : Bodied) → slice_get s.procedures k ≡ Some p → slice_get s'.procedures k ≡ Some p) → (p : LiveProcedure) → Lives program w b s p → Lives program w' b' s' p
   lives_later program s s' e e' l g p x = record {
@@ -127,6 +130,7 @@ module _ {w : World} {b : Base} {arrays : List (Option ArrayInfo)} {w' : World} 
     result = x.result;
     back = x.back;
     shows = subst (λ z. Shows program w' b' z x.bodied.env p.context.names p.context.level p.link) (sym e') (shows_later program l x.bodied.env p.context.names p.context.level p.link (subst (λ z. Shows program w b z x.bodied.env p.context.names p.context.level p.link) e x.shows));
+    under_way = under_way_later l p.link x.under_way;
   }
 
   -- ---- what is under way
@@ -216,6 +220,10 @@ agrees_over program w b b' h h' s s' o g st q l a = record {
   above = λ t i. above_over program b b' s s' t o g.labels (a.above t i);
   deep = g.deep a.deep;
 }
+
+-- the text that runs is under way
+pub runs_under_way : {program : List Coded} {w : World} {b : Base} {h : Heap} {s : State Bodied} {c : Context} {e : Env} → At program w b h s c e → IsUnderWay b.frames b.current
+runs_under_way l = record { start = l.start; starts = l.starts }
 
 -- the same stacks, and a later state
 pub agrees_on : (program : List Coded) (w : World) (b : Base) (h h' : Heap) (s s' : State Bodied) → Grew h s h' s' → Settled b h' s'.memory s'.records s'.fields → length b.slots ≡ s'.cells → s'.active ≡ s.active → Agrees program w b h s → Agrees program w b h' s'

@@ -108,7 +108,7 @@ module _ (set : Setting) (program : Code) where
     named_by_kind u at w b h s c e mode k held (Some (thunk m a env)) (Some name) f code wanted l ft = either f.0
       where
         formal : HasAt program.instructions k (one at (instr.UseFormal mode (links c name) name.position) ▸ one at instr.End) → Follows set program (Gives b s.active (k + 1 + 1)) w.targets h s (mach b h s k held) (named set later u at (Some (thunk m a env)) s)
-        formal has = copied_follows set program later hl u w b h s k held (mach b h s k held) (record { at = at; does = instr.UseFormal mode (links c name) name.position }) (k + 1) f.1 m a f.3 env l.agrees f.4 f.5 f.6 ft has.0 (formal_row mode u at b h s k held c name f.1 f.2 wanted) has.1.0
+        formal has = copied_follows set program later hl u w b h s k held (mach b h s k held) (record { at = at; does = instr.UseFormal mode (links c name) name.position }) (k + 1) f.1 m a f.3 env l.agrees f.4 f.5 f.6 f.7 ft has.0 (formal_row mode u at b h s k held c name f.1 f.2 wanted) has.1.0
 
         either : ((name.kind ≡ a_name_formal) ⊎ (name.kind ≡ a_procedure_formal)) → Follows set program (Gives b s.active (k + named_size (Some name.kind))) w.targets h s (mach b h s k held) (named set later u at (Some (thunk m a env)) s)
         either (inl q) = ends_at set program b s.active (k + 1 + 1) (k + named_size (Some name.kind)) w.targets h s (mach b h s k held) (named set later u at (Some (thunk m a env)) s) (let y = ap (λ κ. k + named_size (Some κ)) q in omega (arith, y)) (formal (subst (λ κ. HasAt program.instructions k (named_by c at mode κ name)) q code))

@@ -27,7 +27,7 @@ use Rattle.code_simulation.specs.Following.{already, Comes, Follows, PhraseFollo
 use Rattle.code_simulation.proofs.Stacks.{has_front, has_back, length_map, length_code}
 use Rattle.code_simulation.proofs.Sizes.{code_sized, subscripts_sized, subarray_sized, text_of_sized}
 use Rattle.code_simulation.proofs.Rows.{one_row, comes_on, follows_from, follows_then, follows_on, follows_more, grew_here}
-use Rattle.code_simulation.proofs.Keeping.{pushed, with_cells, over_pushed, later_over, listed_later, at_pushed}
+use Rattle.code_simulation.proofs.Keeping.{pushed, with_cells, over_pushed, later_over, listed_later, runs_under_way, at_pushed}
 use Rattle.code_simulation.proofs.Values.{follows_at}
 use Rattle.code_simulation.proofs.Operators.{at_reached}
 use Rattle.code_simulation.proofs.Texts.{inside, answered_in, over_inside, settled_in, closed, returned}
@@ -44,7 +44,7 @@ use Rattle.code_simulation.proofs.Sources.{StandsFor, stands_later, source_is, H
 use Rattle.phrase_code.specs.Marks.{marks, actual_marks, actuals_marks, subscripts_marks}
 use Rattle.code_simulation.specs.Room.{Fits}
 use Rattle.code_simulation.proofs.Values.{push_below}
-use Rattle.code_simulation.proofs.Room.{fits_left, fits_right, fits_most, fits_pushed, fits_aside, room_for_entry, room_for_frame, text_in_room}
+use Rattle.code_simulation.proofs.Room.{fits_left, fits_right, fits_most, fits_pushed, fits_aside, room_for_entry, room_for_frame, link_is_below, text_in_room}
 
 module _ (set : Setting) (program : Code) (later : Job → M Bodied state.Given) where
   -- the text of a phrase that is copied
@@ -84,9 +84,9 @@ module _ (set : Setting) (program : Code) (later : Job → M Bodied state.Given)
   prepared_phrase R v g first reading a wa p (by_result t) at w b h s c e k kh held F does_it row code tx l ft go_on_ready = ready_pushed R at w b h s c e k held F does_it without_value machine.nothing row code l tt go_on_ready
   prepared_phrase R v g first reading a wa p (by_name t) at w b h s c e k kh held F does_it row code tx l ft go_on_ready =
       let iv = copying.is_variable_of t v g in
-      ready_pushed R at w b h s c e k held F does_it (put_for (thunk (copying.mark at first (Some t) iv) a e)) (machine.a_thunk (record { head = kh; link = b.current; type = Some t; is_variable = iv })) row code l (c, text_is at first reading a wa c kh b.current (Some t) iv tx, l.shows, (let y = fits_most ft in let z = ft.marks_are in omega (arith, y, z))) go_on_ready
+      ready_pushed R at w b h s c e k held F does_it (put_for (thunk (copying.mark at first (Some t) iv) a e)) (machine.a_thunk (record { head = kh; link = b.current; type = Some t; is_variable = iv })) row code l (c, text_is at first reading a wa c kh b.current (Some t) iv tx, l.shows, (let y = fits_most ft in let z = ft.marks_are in omega (arith, y, z)), runs_under_way l) go_on_ready
   prepared_phrase R v g first reading a wa p (for_procedure result) at w b h s c e k kh held F does_it row code tx l ft go_on_ready =
-      ready_pushed R at w b h s c e k held F does_it (put_for (thunk (copying.mark at first result false) a e)) (machine.a_thunk (record { head = kh; link = b.current; type = result; is_variable = false })) row code l (c, text_is at first reading a wa c kh b.current result false tx, l.shows, (let y = fits_most ft in let z = ft.marks_are in omega (arith, y, z))) go_on_ready
+      ready_pushed R at w b h s c e k held F does_it (put_for (thunk (copying.mark at first result false) a e)) (machine.a_thunk (record { head = kh; link = b.current; type = result; is_variable = false })) row code l (c, text_is at first reading a wa c kh b.current result false tx, l.shows, (let y = fits_most ft in let z = ft.marks_are in omega (arith, y, z)), runs_under_way l) go_on_ready
   prepared_phrase R v g first reading a wa p (for_array t n) at w b h s c e k kh held F does_it row code tx l ft go_on_ready = tt
 
   -- ---- a name alone
@@ -169,7 +169,7 @@ module _ (set : Setting) (program : Code) (later : Job → M Bodied state.Given)
       let os = stand_at c.names x in
       ready_pushed R at w b h s c e k held F does_it (put_for (thunk (copying.mark at p (Some t) false) (bare p x) e)) (machine.a_thunk (record { head = kh; link = b.current; type = Some t; is_variable = false }))
       (row ∙ by (reading_is program.instructions w b s.arrays c (find e x) os (found program.instructions w b s.arrays c.level b.current e c.names x l.shows)))
-      code l (c, text_is at p (reading_of_name c os) (bare p x) (tt, tt) c kh b.current (Some t) false (bare_text at p x (reading_of_name c os) c kh tx), l.shows, omega arith) g
+      code l (c, text_is at p (reading_of_name c os) (bare p x) (tt, tt) c kh b.current (Some t) false (bare_text at p x (reading_of_name c os) c kh tx), l.shows, omega arith, runs_under_way l) g
     where
       m : Machine
       m = mach b h s k held
@@ -222,7 +222,7 @@ module _ (set : Setting) (program : Code) (later : Job → M Bodied state.Given)
       let ag = l.agrees in
       let X = after (go_stars set later given at e s) (subarray_at set later at (head e (Named x))) in
       let li : At program.instructions w bi h s (inner_text c) e = inside_at program.instructions w b h s s c e fr machine.an_aside ag (grew_here h s) refl refl refl refl refl refl l.shows (listed_later program.instructions (later_over w b bi s.arrays s.arrays (over_inside fr machine.an_aside b) (λ j z i. i)) b.entries [] s.active ag.listed) in
-      text_in_room set program (ArrayReady b s.active (k + 1 + 1)) w.targets b h s k held (mach b h s k held) (record { at = at; does = does_it }) (k + 1) n kh (kh + 1) b.current for_value None false machine.an_aside X (room_for_frame ft) (room_for_entry ft) code.0 row
+      text_in_room set program (ArrayReady b s.active (k + 1 + 1)) w.targets b h s k held (mach b h s k held) (record { at = at; does = does_it }) (k + 1) n kh (kh + 1) b.current for_value None false machine.an_aside X (link_is_below b.frames b.current (runs_under_way l)) (room_for_frame ft) (room_for_entry ft) code.0 row
       (follows_more set program (ArrayReady bi s.active kb) (ArrayReady b s.active (k + 1 + 1)) w.targets h s (mach bi h s (kh + 1) held) X
       (λ r h1 s1 m1 q. let y = machine.an_array q.array q.given in let z = q.reached in (
         mach b h1 s1 (k + 1 + 1) y,

@@ -1,7 +1,7 @@
 -- There is room for entries and frames. Names are no more than cells, and marks of a text no more than the code's marks, since the marks so far and
 -- those of the phrase that is still to be done are within them.
 use Rattle.std.proofs.Common.{◌≡◌, ℕ, suc, ◌+◌, ◌-◌, ◌*◌, ◌<◌, ◌≤◌, List, [], ◌∷◌, length, Option, Some, None, refl, sym, ap, ◌∙◌, subst, arith, lt-ltb}
-use Rattle.std.specs.Prelude.{slice_get, max, Bool, true, false}
+use Rattle.std.specs.Prelude.{slice_get, max, nat_lt, Bool, true, false}
 use Rattle.std.proofs.Math.Nat.{le-max_left, le-max_right}
 use Rattle.std.proofs.lemmas.Nat.{mul-le}
 use Rattle.value_ops.specs.declared.places.Place.{Place}
@@ -13,15 +13,16 @@ use Rattle.program_meaning.specs.State.{State, Setting, Outcome, Use, wrong, Arr
 use Rattle.program_meaning.specs.Environments.{Bodied}
 use Rattle.stack_code.specs.Code.{Code, Coded}
 use Rattle.stack_code.specs.Machine as machine
-use Rattle.stack_code.specs.Machine.{Machine, Content, Entry, Frame}
+use Rattle.stack_code.specs.Machine.{Machine, Content, Entry, Frame, on_top_of}
 use Rattle.stack_code.specs.Doing as doing
-use Rattle.stack_code.specs.Doing.{Next, Row, halted, most_frames, most_entries, enter, push_frame, open_frame, frame_for, run_newest, go_to, ◌>>◌}
+use Rattle.stack_code.specs.Doing.{Next, Row, halted, most_frames, most_entries, enter, push_frame, open_frame, start_of, frame_for, run_newest, go_to, ◌>>◌}
 use Rattle.stack_code.specs.Table.{does, name_of, enter_formals}
 use Rattle.code_simulation.specs.UnderWay.{names_in, marks_in, texts_in, texts_under, IsDeep}
 use Rattle.code_simulation.specs.Room.{Fits}
-use Rattle.code_simulation.specs.Relation.{Slot, Base, Heap, mach, World, Target, Listed}
+use Rattle.code_simulation.specs.Relation.{Slot, Base, Heap, mach, World, Target, IsUnderWay, Listed}
 use Rattle.code_simulation.specs.Ready.{formal_entries}
 use Rattle.code_simulation.specs.Following.{Follows}
+use Rattle.code_simulation.proofs.Stacks.{is_below, top_below}
 use Rattle.code_simulation.proofs.Rows.{one_row, follows_from}
 use Rattle.code_simulation.proofs.Keeping.{pushed, grew_to}
 use Rattle.code_simulation.proofs.Texts.{inside}
@@ -262,6 +263,16 @@ marks_few_in_text {most} {n} {w} {b} f d =
 pub room_for_frame : {most n : ℕ} {w : World} {b : Base} → Fits most w b n → length b.frames < most_frames most
 room_for_frame f = let m = marks_few f in let d = f.framed in omega (arith, m, d)
 
+-- ---- links that name a text below
+
+pub link_is_below : (frames : List Frame) (link : Option ℕ) → IsUnderWay frames link → doing.is_below link (length frames) ≡ true
+link_is_below frames None x = refl
+link_is_below frames (Some k) x = by (on_top_of frames k) refl x.starts
+  where
+    by : (o : Option Frame) → on_top_of frames k ≡ o → start_of o ≡ Some x.start → nat_lt k (length frames) ≡ true
+    by None q e = absurd (cc)
+    by (Some f) q e = is_below k (length frames) (top_below frames k f q)
+
 -- ---- rows that have room
 
 pub entered_is : (most : ℕ) (e : Entry) (K : Row (Unit {0})) (m : Machine) → length m.entries < most_entries most → (enter most e >> K) m ≡ K (record m { entries = e ∷ m.entries })
@@ -269,6 +280,10 @@ entered_is most e K m q = ap (λ (z : Bool). let n : Next (Unit {0}) = elim z [ 
 
 pub framed_is : (most : ℕ) (f : Frame) (K : Row (Unit {0})) (m : Machine) → length m.frames < most_frames most → (push_frame most f >> K) m ≡ K (record m { frames = f ∷ m.frames })
 framed_is most f K m q = ap (λ (z : Bool). let n : Next (Unit {0}) = elim z [ true ↦ doing.on (tt {0}) (record m { frames = f ∷ m.frames }) | false ↦ halted wrong m ] in doing.after n (λ a. K)) (lt-ltb (length m.frames) (most_frames most) q)
+
+pub opened_is : (most back base head : ℕ) (link : Option ℕ) (purpose : Use) (type : Option ValueType) (counts : Bool) (K : Row (Unit {0})) (m : Machine) → doing.is_below link (length m.frames) ≡ true →
+    (open_frame most back base head link purpose type counts >> K) m ≡ (push_frame most (frame_for m back base head link purpose type counts) >> K) m
+opened_is most back base head link purpose type counts K m q = ap (λ (z : Bool). doing.after (doing.test z (push_frame most (frame_for m back base head link purpose type counts)) doing.stuck m) (λ a. K)) q
 
 module _ (set : Setting) (program : Code) where
   -- an entry more within a row, and a frame more
@@ -282,12 +297,13 @@ module _ (set : Setting) (program : Code) where
 
   -- a text is entered, with its frame and its mark
   pub text_in_room : {A : Type 0} (R : A → Heap → State Bodied → Machine → Type 0) (ts : List Target) (b : Base) (h : Heap) (s : State Bodied) (k : ℕ) (held : Content) (m : Machine) (c : Coded) (back n head next : ℕ) (link : Option ℕ) (purpose : Use) (type : Option ValueType) (counts : Bool) (e : Entry) (r : Outcome Bodied A) →
-      length b.frames < most_frames program.marks → length b.entries < most_entries program.marks →
+      doing.is_below link (length b.frames) ≡ true → length b.frames < most_frames program.marks → length b.entries < most_entries program.marks →
       slice_get program.instructions m.pc ≡ Some c → does set program c.at c.does m ≡ (open_frame program.marks back n head link purpose type counts >> (enter program.marks e >> (run_newest >> go_to next))) (mach b h s k held) →
       Follows set program R ts h s (mach (inside (frame_for (mach b h s k held) back n head link purpose type counts) e b) h s next held) r → Follows set program R ts h s m r
-  text_in_room R ts b h s k held m c back n head next link purpose type counts e r rf re q d f =
+  text_in_room R ts b h s k held m c back n head next link purpose type counts e r lb rf re q d f =
       let fr = frame_for (mach b h s k held) back n head link purpose type counts in
-      frame_in_room m (mach b h s k held) c fr (enter program.marks e >> (run_newest >> go_to next)) rf d
+      let K = enter program.marks e >> (run_newest >> go_to next) in
+      frame_in_room m (mach b h s k held) c fr K rf (d ∙ opened_is program.marks back n head link purpose type counts K (mach b h s k held) lb)
       (λ d1. enter_in_room m (record (mach b h s k held) { frames = fr ∷ b.frames }) c e (run_newest >> go_to next) re d1
       (λ d2. follows_from set program R ts h s h s m (mach (inside fr e b) h s next held) r (one_row set program m (mach (inside fr e b) h s next held) c q d2) (grew_to h s s refl refl refl refl (λ d. d)) f))
 

@@ -16,7 +16,7 @@ use Rattle.stack_code.specs.Doing.{outwards, start_at}
 use Rattle.phrase_code.specs.Sizes.{Known, a_variable, an_array, size, decls_size, bounds_size, text_size, result_size, formals_known}
 use Rattle.phrase_code.specs.Coding.{◌▸◌, one, Stand, Context, known, with_entries, name_stands, label_stands, item_stands, decl_stands, body_context, code, result_code, code_decls, declare_code, declare_arrays_code, code_bounds}
 use Rattle.code_simulation.specs.Written.{DeclsWritten}
-use Rattle.code_simulation.specs.Relation.{HasAt, Has, Slot, variable, fixed, Base, World, LiveProcedure, Target, HasEntry, Shows, Lives, label_targets, item_targets}
+use Rattle.code_simulation.specs.Relation.{HasAt, Has, Slot, variable, fixed, Base, World, LiveProcedure, Target, HasEntry, IsUnderWay, Shows, Lives, label_targets, item_targets}
 use Rattle.code_simulation.specs.Declared.{VariablesAt, ArraysAt, DeclsAt, own_procedures}
 use Rattle.code_simulation.proofs.Stacks.{has_front, has_back}
 use Rattle.code_simulation.proofs.Sizes.{code_sized, result_sized, known_formals, declare_sized, declare_arrays_sized, bounds_sized}
@@ -110,18 +110,18 @@ module _ (program : List Coded) (w : World) (b : Base) (arrays : List (Option Ar
 -- ---- procedures of a block may be called
 
 pub live_own : (program : List Coded) (w : World) (b : Base) (s : State Bodied) (outside inside : Context) (link : Option ℕ) (at : Place) (env : Env) (p k : ℕ) (decls : Decls) (more : List LiveProcedure) (rest : List Coded) → DeclsWritten decls → decls_marks decls ≤ w.marks → HasAt program k (code_decls outside inside at k decls ▸ rest) →
-    ((j : ℕ) (x : Bodied) → slice_get (bodied_procedures at env decls) j ≡ Some x → slice_get s.procedures (p + j) ≡ Some x) → Shows program w b s.arrays env inside.names inside.level link → (q : LiveProcedure) → Has q (own_procedures (known outside) (known inside) inside link p k decls more) → Lives program w b s q ⊎ Has q more
-live_own program w b s outside inside link at env p k no_decls more rest dw few h f sh q i = inr i
-live_own program w b s outside inside link at env p k (variables_and xs decls) more rest dw few h f sh q i =
-    live_own program w b s (with_entries (length xs) outside) inside link at env p (k + length xs) decls more rest dw few (has_back program k (length xs) (declare_code at xs) _ (declare_sized at xs).by (has_joined program k (declare_code at xs) _ rest h)) f sh q i
-live_own program w b s outside inside link at env p k (arrays_and t xs pairs decls) more rest dw few h f sh q i =
+    ((j : ℕ) (x : Bodied) → slice_get (bodied_procedures at env decls) j ≡ Some x → slice_get s.procedures (p + j) ≡ Some x) → Shows program w b s.arrays env inside.names inside.level link → IsUnderWay b.frames link → (q : LiveProcedure) → Has q (own_procedures (known outside) (known inside) inside link p k decls more) → Lives program w b s q ⊎ Has q more
+live_own program w b s outside inside link at env p k no_decls more rest dw few h f sh lk q i = inr i
+live_own program w b s outside inside link at env p k (variables_and xs decls) more rest dw few h f sh lk q i =
+    live_own program w b s (with_entries (length xs) outside) inside link at env p (k + length xs) decls more rest dw few (has_back program k (length xs) (declare_code at xs) _ (declare_sized at xs).by (has_joined program k (declare_code at xs) _ rest h)) f sh lk q i
+live_own program w b s outside inside link at env p k (arrays_and t xs pairs decls) more rest dw few h f sh lk q i =
     let cd = code_decls (with_entries (length xs) outside) inside at (k + (bounds_size (known outside) pairs + (1 + length xs))) decls in
     let n = bounds_size (known outside) pairs in
     let h1 = has_back program k n (code_bounds outside at k pairs) _ (bounds_sized outside at k pairs).by (has_joined program k (code_bounds outside at k pairs) _ rest h) in
     let h2 = has_back program (k + n + 1) (length xs) (declare_arrays_code at t xs) _ (declare_arrays_sized at t xs).by (has_joined program (k + n + 1) (declare_arrays_code at t xs) cd rest h1.1) in
     let e : k + n + 1 + length xs ≡ k + (n + (1 + length xs)) = omega arith in
-    live_own program w b s (with_entries (length xs) outside) inside link at env p (k + (n + (1 + length xs))) decls more rest dw.1 (let m = le-max_right (bounds_marks pairs) (decls_marks decls) in omega (arith, m, few)) (subst (λ j. HasAt program j (cd ▸ rest)) e h2) f sh q i
-live_own program w b s outside inside link at env p k (procedure_and x result formals body decls) more rest dw few h f sh q (inl i) =
+    live_own program w b s (with_entries (length xs) outside) inside link at env p (k + (n + (1 + length xs))) decls more rest dw.1 (let m = le-max_right (bounds_marks pairs) (decls_marks decls) in omega (arith, m, few)) (subst (λ j. HasAt program j (cd ▸ rest)) e h2) f sh lk q i
+live_own program w b s outside inside link at env p k (procedure_and x result formals body decls) more rest dw few h f sh lk q (inl i) =
     let pc = procedure_code program at k inside x result formals body _ rest h in
     let z : p + 0 ≡ p = omega arith in
     inl (subst (Lives program w b s) (sym i) (record {
@@ -136,10 +136,11 @@ live_own program w b s outside inside link at env p k (procedure_and x result fo
       result = pc.result_has;
       back = pc.back;
       shows = sh;
+      under_way = lk;
     }))
-live_own program w b s outside inside link at env p k (procedure_and x result formals body decls) more rest dw few h f sh q (inr i) =
+live_own program w b s outside inside link at env p k (procedure_and x result formals body decls) more rest dw few h f sh lk q (inr i) =
     let pc = procedure_code program at k inside x result formals body _ rest h in
     let ef : size (known (body_context inside formals)) body ≡ size (formals_known formals (known inside)) body = ap (λ l. size l body) (known_formals (inside.level + 1) 1 formals inside.names) in
     let e : k + decls_size (known outside) (known inside) (procedure_and x result formals body no_decls) ≡ k + text_size (size (known (body_context inside formals)) body + result_size result) = omega (arith, ef) in
     live_own program w b s outside inside link at env (p + 1) (k + text_size (size (known (body_context inside formals)) body + result_size result)) decls more rest dw.1 (let m = le-max_right (marks body) (decls_marks decls) in omega (arith, m, few)) (subst (λ j. HasAt program j (code_decls outside inside at (k + text_size (size (known (body_context inside formals)) body + result_size result)) decls ▸ rest)) pc.behind_is pc.rest)
-    (λ j y g. let z : p + suc j ≡ p + 1 + j = omega arith in subst (λ l. slice_get s.procedures l ≡ Some y) z (f (suc j) y g)) sh q (subst (λ j. Has q (own_procedures (known outside) (known inside) inside link (p + 1) j decls more)) e i)
+    (λ j y g. let z : p + suc j ≡ p + 1 + j = omega arith in subst (λ l. slice_get s.procedures l ≡ Some y) z (f (suc j) y g)) sh lk q (subst (λ j. Has q (own_procedures (known outside) (known inside) inside link (p + 1) j decls more)) e i)

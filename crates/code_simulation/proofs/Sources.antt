@@ -108,7 +108,7 @@ module _ (program : List Coded) (w : World) (b : Base) (h : Heap) (s : State Bod
     source = λ j held. either j held f.0;
     handed = λ m. refl;
     gives = refl;
-    is = (f.3, f.4, f.5, f.6);
+    is = (f.3, f.4, f.5, f.6, f.7);
   })
     where
       either : (j : ℕ) (held : Content) → ((name.kind ≡ a_name_formal) ⊎ (name.kind ≡ a_procedure_formal)) → source_out (source_of c name) (mach b h s j held) ≡ doing.on (machine.a_thunk f.1) (mach b h s j held)

@@ -80,7 +80,7 @@ module _ (b : Base) (j : ℕ) (f : Frame) (is : on_top_of b.frames j ≡ Some f)
   inner_means program w arrays (to_label n) name level x = let y = x.1 in (x.0, record { target = y.target; has = y.has; number = y.number; item = y.item; out = let o = y.out in omega (arith, o); text_is = inner_out level name.level y.out ∙ y.text_is; start = y.start; starts = y.starts; cut = y.cut; mark = y.mark })
   inner_means program w arrays (to_procedure k) name level (inl y) = inl (record { procedure = y.procedure; has = y.has; number = y.number; kind = y.kind; head = y.head; out = let o = y.out in omega (arith, o); text_is = inner_out level name.level y.out ∙ y.text_is })
   inner_means program w arrays (to_procedure k) name level (inr y) = inr (record { procedure = y.procedure; has = y.has; number = y.number; kind = y.kind; entry = inner_entry name level _ y.entry })
-  inner_means program w arrays (thunk m a e) name level x = (x.0, x.1, inner_entry name level _ x.2, x.3, x.4, x.5, x.6)
+  inner_means program w arrays (thunk m a e) name level x = (x.0, x.1, inner_entry name level _ x.2, x.3, x.4, x.5, x.6, x.7)
 
   -- what a text's link shows, its code shows
   pub inner_shows : (program : List Coded) (w : World) (arrays : List (Option ArrayInfo)) (e : Env) (names : List Stand) (level : ℕ) → Shows program w b arrays e names level f.link → Shows program w b arrays e names (level + 1) (Some j)

@@ -13,12 +13,12 @@ use Rattle.stack_code.specs.Table.{name_of}
 use Rattle.phrase_code.specs.Sizes.{a_variable, an_array, a_name_formal, a_procedure_formal, kind_of_formal}
 use Rattle.phrase_code.specs.Marks.{marks}
 use Rattle.phrase_code.specs.Coding.{Context}
-use Rattle.code_simulation.specs.Relation.{Has, Slot, variable, fixed, Base, World, LiveProcedure, HasText, HasArray, Shows}
+use Rattle.code_simulation.specs.Relation.{Has, Slot, variable, fixed, Base, World, LiveProcedure, HasText, HasArray, IsUnderWay, Shows}
 
 -- what is put for a formal, and what its cell holds
 abbrev pub ThingIs : List Coded → World → Base → List (Option ArrayInfo) → FormalType → Thing → Content → Type 0
 ThingIs program w b arrays f (thunk m a e) x =
-    ((kind_of_formal f ≡ a_name_formal) ⊎ (kind_of_formal f ≡ a_procedure_formal)) × (t : Thunk) × (x ≡ machine.a_thunk t) × (c : Context) × HasText program t m a c × Shows program w b arrays e c.names c.level t.link × (marks a ≤ w.marks)
+    ((kind_of_formal f ≡ a_name_formal) ⊎ (kind_of_formal f ≡ a_procedure_formal)) × (t : Thunk) × (x ≡ machine.a_thunk t) × (c : Context) × HasText program t m a c × Shows program w b arrays e c.names c.level t.link × (marks a ≤ w.marks) × IsUnderWay b.frames t.link
 ThingIs program w b arrays f (to_array k given) x = (kind_of_formal f ≡ an_array) × (a : ArrayInfo) × (x ≡ machine.an_array a given) × HasArray b arrays k a
 ThingIs program w b arrays f (to_procedure k) x = (kind_of_formal f ≡ a_procedure_formal) × (q : LiveProcedure) × Has q w.procedures × (k ≡ q.number) × (x ≡ machine.a_procedure (record { head = q.head; link = q.link }))
 ThingIs program w b arrays f t x = ⊥

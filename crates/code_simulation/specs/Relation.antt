@@ -136,6 +136,11 @@ pub record HasEntry (b : Base) (name : Stand) (level : ℕ) (text : Option ℕ) 
   pub is : cell_of (Some entry) ≡ Some cell
   pub holds : on_top_of b.slots cell ≡ Some slot
 
+-- a text that is under way: the program, or one that has a frame
+pub record IsUnderWay (frames : List Frame) (text : Option ℕ) : Type 0 where
+  pub start : ℕ
+  pub starts : start_at frames (Some text) ≡ Some start
+
 -- an array as the machine has it, and the array k of the meaning
 pub record HasArray (b : Base) (arrays : List (Option ArrayInfo)) (k : ℕ) (a : ArrayInfo) : Type 0 where
   pub info : ArrayInfo
@@ -202,7 +207,7 @@ abbrev mutual
   Means program w b arrays (to_procedure k) name level text = HasProcedure w b k name level text ⊎ HasProcedureFormal w b k name level text
   Means program w b arrays (thunk m a e) name level text =
       ((name.kind ≡ a_name_formal) ⊎ (name.kind ≡ a_procedure_formal)) × (t : Thunk) × HasEntry b name level text (fixed (machine.a_thunk t)) ×
-      (c : Context) × HasText program t m a c × Shows program w b arrays e c.names c.level t.link × (marks a ≤ w.marks)
+      (c : Context) × HasText program t m a c × Shows program w b arrays e c.names c.level t.link × (marks a ≤ w.marks) × IsUnderWay b.frames t.link
 
 -- ---- procedures that may be called
 
@@ -219,6 +224,7 @@ pub record Lives (program : List Coded) (w : World) (b : Base) (s : State Bodied
   pub result : HasAt program (p.head + 1 + size (known (body_context p.context bodied.formals)) bodied.body) (result_code bodied.statement bodied.result)
   pub back : slice_get program (p.head + 1 + size (known (body_context p.context bodied.formals)) bodied.body + result_size bodied.result) ≡ Some (record { at = bodied.statement; does = instr.Return })
   pub shows : Shows program w b s.arrays bodied.env p.context.names p.context.level p.link
+  pub under_way : IsUnderWay b.frames p.link
 
 -- ---- what is under way
 
