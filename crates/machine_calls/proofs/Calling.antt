@@ -15,7 +15,7 @@ use Rattle.cell_store.specs.declared.entries.Entry.TheVariants as entry
 use Rattle.cell_store.specs.declared.entries.Frame as store_frame
 use Rattle.cell_store.specs.declared.entries.Purpose.TheVariants as purpose
 use Rattle.cell_store.specs.declared.entries.Refusal.TheVariants as refusal
-use Rattle.cell_store.specs.Stores.{Store, entered, has_room, text_allowed}
+use Rattle.cell_store.specs.Stores.{Store, entered, text_allowed}
 use Rattle.program_meaning.specs.State.{by_limit, for_value}
 use Rattle.stack_code.specs.declared.heads.Formal.{Formal}
 use Rattle.stack_code.specs.declared.heads.ProcedureHead.{ProcedureHead}
@@ -37,9 +37,9 @@ use Rattle.machine_rows.specs.Rows.{Goes, Lands}
 use Rattle.machine_calls.proofs.Heads.{procedure_found}
 use Rattle.machine_rows.proofs.Rows.{HasRoom, text_more, one_deeper, deeper_on, deeper_off, tick_on, tick_off}
 use Rattle.machine_rows.proofs.Standing.{Fits, restored, entered_fits, store_fits}
-use Rattle.machine_rows.proofs.Entering.{cells_count, entries_count}
+use Rattle.machine_rows.proofs.Entering.{cells_count, entries_count, takes, room_there}
 use Rattle.machine_calls.proofs.Formals.{AreEntered, formals_entered, on_top, entries_fit}
-use Rattle.machine_calls.proofs.Using.{counted_frame, counted_row, counted_room, counted_is, counted_machine, room_there, allowed_below, limited_over, refused_below}
+use Rattle.machine_calls.proofs.Using.{counted_frame, counted_row, counted_room, counted_is, counted_machine, allowed_below, limited_over, refused_below}
 use Rattle.machine_calls.proofs.Thunks.{ticked}
 use Rattle.machine_calls.proofs.Uses.{step_answer, stopped, went, ticked_stands}
 
@@ -102,11 +102,11 @@ module _ (v : Seen) (s : State) (h : Held) (st : Stands v s) (site : Place) (p :
     counted_clear : IsClear (counted base)
     counted_clear = subst IsClear (body_deep deep) clear
 
-    has_room_in : HasRoom v.code.marks m1
+    has_room_in : HasRoom v.code.marks p.link m1
     has_room_in = counted_room v s h st (v.pc + 1) base p.head p.link purpose.Value Option.None (entry.Call p.head site) (rest base) counted_clear
 
-    pub body_room : has_room s.store ≡ true
-    body_room = room_there v s h st (v.pc + 1) base p.head p.link purpose.Value Option.None (entry.Call p.head site) has_room_in
+    pub body_room : takes s.store p.link ≡ true
+    body_room = room_there v s h st p.link has_room_in
 
     abbrev f : store_frame.Frame
     f = counted_frame s.store (v.pc + 1) base p.head p.link purpose.Value Option.None
@@ -205,7 +205,7 @@ module _ (v : Seen) (s : State) (h : Held) (st : Stands v s) (site : Place) (p :
 
       pub call_refused : (s1 : State) (pc b : ℕ) → s1 ≡ ticked s → text_allowed (call_frame s1.store pc b) s1.store ≡ Err refusal.NoRoom → ⊥
       call_refused s1 pc b k a = cc (no.1, body_room v (ticked s) h st1 site p fs clear1 no.0) where
-        no : (nat_lt s.store.depth 2000 ≡ true) × (has_room s.store ≡ false)
+        no : (nat_lt s.store.depth 2000 ≡ true) × (takes s.store p.link ≡ false)
         no = refused_below s.store (call_frame s.store pc b) refl (subst (λ (z : State). text_allowed (call_frame z.store pc b) z.store ≡ Err refusal.NoRoom) k a)
 
       module _ (s1 : State) (pc b : ℕ) (k : s1 ≡ ticked s) (a : text_allowed (call_frame s1.store pc b) s1.store ≡ Ok tt) where
