@@ -15,7 +15,7 @@ pub use phrases::{
 pub use programs::{
     Gives, NameInfo, Node, NodeKind, Program, Targets, TypedActual, TypedBound, TypedClass,
     TypedDecl, TypedFormal, TypedItem, TypedLabelled, TypedLink, TypedList, TypedListKind,
-    TypedPart, TypedProc, Use,
+    TypedPart, TypedProc,
 };
 pub use spelling::{ShortName, Spelling};
 pub use tokens::{Literal, Symbol, Token, TokenKind, Word};

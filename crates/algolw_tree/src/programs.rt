@@ -32,15 +32,6 @@ pub struct NameInfo {
     pub slot: u32,
 }
 
-/// A name that is used.
-#[derive(Clone, Copy, Debug, PartialEq, Eq)]
-pub struct Use {
-    /// Where it is used.
-    pub place: Place,
-    /// The number of the name that it means, where that is declared.
-    pub target: Option<u32>,
-}
-
 /// What is declared, each by its number, with the place where that is written.
 pub type Targets = Vec<(u32, Place)>;
 

@@ -8,7 +8,8 @@ use Rattle.std.specs.Str.Parse.{digits_value}
 use Rattle.deck_reader.specs.declared.forms.AccountCard.{AccountCard}
 use Rattle.deck_reader.specs.Forms.{is_digits, ends_a_word, is_account, parted, behind_blanks, name_of, balance_of, account_with, name_and_balance, account_card}
 use Rattle.short_text.specs.Blanks.{blanks}
-use Rattle.deck_reader.specs.CardForms.{IsName, IsNumber, IsAccountCard, AccountCardByParts}
+use Rattle.deck_reader.specs.Texts.{IsName, IsNumber}
+use Rattle.deck_reader.specs.CardForms.{IsAccountCard, AccountCardByParts}
 use Rattle.deck_reader.proofs.Fields.{Lacks, from_parted, parted_is, with_blanks_in_front, behind_blanks_is}
 use Rattle.deck_reader.proofs.Settings.{if_some, both_true, name_lacks, from_is_name, digits_lack, from_is_digits, word-length, from_name_of, name_of_is}
 use Rattle.deck_reader.proofs.JobCards.{from_is_control, is_control_with, leading_blank}

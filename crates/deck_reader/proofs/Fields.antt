@@ -3,12 +3,13 @@ use Rattle.std.proofs.Common.{◌≡◌, ℕ, zero, suc, ◌+◌, ◌-◌, ◌<�
 use Rattle.std.proofs.lemmas.Bool.Decides.{nat_tests, Decides-eqb, Decides-ltb}
 use Rattle.std.proofs.lemmas.List.{take-append-drop, take_at, drop_at, get_or_at, get_or_append_left, get_or-append_right, get_or-replicate, get_or-take, length-append, length-take, length-replicate, length-reverse, reverse-append, reverse-reverse, same_lists, get_or-reverse}
 use Rattle.std.proofs.lemmas.List.Folds.{length-prefix_len}
-use Rattle.std.proofs.lemmas.List.Splits.{slice_split_none, slice_split_at}
+use Rattle.std.proofs.lemmas.List.Splits.{slice_split_none, slice_split_at, length-slice_split}
 use Rattle.std.proofs.lemmas.List.Sums.{position_or_len_is, AllPass-from_list_all, prefix_len_passes, suffix_len_is, split_at_first, passes_at_first, fails_before_first}
 use Rattle.std.proofs.Math.Seq.{drop-append-add}
-use Rattle.std.specs.List.{All, list_all, position_or_len, prefix_len, suffix_len}
+use Rattle.std.specs.List.{All, list_all, onto_first, position_or_len, prefix_len, suffix_len}
 use Rattle.std.specs.Option.{option_map}
-use Rattle.deck_reader.specs.Forms.{fields, parted, behind_blanks, stripped}
+use Rattle.deck_reader.specs.Forms.{parted, behind_blanks, stripped}
+use Rattle.deck_reader.specs.JobCards.{fields}
 use Rattle.short_text.specs.Blanks.{trimmed, blanks}
 
 -- none of the bytes is this one
@@ -96,6 +97,22 @@ pub fields-parted : (bytes first more : List ℕ) → parted 44 bytes ≡ Some (
 fields-parted bytes first more h =
     let found = from_parted 44 bytes first more h in
     ap fields found.0 ∙ fields_of_more first more found.1
+
+onto_first-append : (b : ℕ) (first second : List (List ℕ)) → 0 < length first → onto_first b (first ++ second) ≡ onto_first b first ++ second
+onto_first-append b [] second some = absurd (omega arith)
+onto_first-append b (f ∷ first) second some = refl
+
+fields_onto : (byte : Bool) (b : ℕ) (first second : List (List ℕ)) → 0 < length first
+    → cond byte ([] ∷ (first ++ second)) (onto_first b (first ++ second)) ≡ cond byte ([] ∷ first) (onto_first b first) ++ second
+fields_onto true b first second some = refl
+fields_onto false b first second some = onto_first-append b first second some
+
+-- the fields before a comma, and those behind it
+pub fields-joined : (first more : List ℕ) → fields (first ++ 44 ∷ more) ≡ fields first ++ fields more
+fields-joined [] more = refl
+fields-joined (b ∷ first) more =
+    ap (λ (fs : List (List ℕ)). cond (b == 44) ([] ∷ fs) (onto_first b fs)) (fields-joined first more)
+    ∙ fields_onto (b == 44) b (fields first) (fields more) (omega (arith, length-slice_split (λ b. b == 44) first))
 
 -- bytes are some blanks and what stands behind them
 pub with_blanks_in_front : (bytes : List ℕ) → bytes ≡ blanks (prefix_len (λ b. b == 32) bytes) ++ behind_blanks bytes

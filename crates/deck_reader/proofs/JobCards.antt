@@ -8,9 +8,13 @@ use Rattle.std.specs.List.{join_with_byte}
 use Rattle.std.specs.Option.{option_map, MatchOption}
 use Rattle.std.specs.Str.{bytes_eq}
 use Rattle.deck_reader.specs.declared.forms.JobCard.{JobCard}
-use Rattle.deck_reader.specs.Forms.{folded, is_name, ends_a_word, is_control, is_head, fields, stripped, name_of, settings_of, job_with, job_of_fields, job_card, counted, counted_settings}
+use Rattle.deck_reader.specs.declared.options.Settings.{Settings}
+use Rattle.deck_reader.specs.Forms.{folded, is_name, ends_a_word, is_control, is_head, stripped, name_of}
+use Rattle.deck_reader.specs.JobCards.{fields, job_with, job_of_fields, job_card, counted}
+use Rattle.deck_reader.specs.Options.{unset, settings_of, counted_settings}
 use Rattle.short_text.specs.Blanks.{blanks}
-use Rattle.deck_reader.specs.CardForms.{IsWord, IsName, IsField, IsSettings, IsJobCard, JobCardByParts}
+use Rattle.deck_reader.specs.Texts.{IsWord, IsName, IsField}
+use Rattle.deck_reader.specs.CardForms.{IsSettings, IsJobCard, JobCardByParts}
 use Rattle.deck_reader.proofs.Fields.{Lacks, fields_of_more}
 use Rattle.deck_reader.proofs.Settings.{if_some, both_true, name_lacks, from_is_name, word-length, from_name_of, name_of_is, field_of, field-stripped, field_lacks, from_settings_of, settings_are}
 
@@ -36,17 +40,17 @@ leading_blank zero [] more h ends = cc
 leading_blank zero (c ∷ cs) more h ends = let other : (c == 32) ≡ false = name_lacks 32 (c ∷ cs) refl h 0 0 (from_is_name (c ∷ cs) h).1 in cc
 
 -- to count a job card is to count its settings
-counted-job_with : (name account : Option (List ℕ)) (settings : Option (Option ℕ × Option ℕ))
+counted-job_with : (name account : Option (List ℕ)) (settings : Option Settings)
     → option_map counted (job_with name account settings) ≡ job_with name account (option_map counted_settings settings)
 counted-job_with None account settings = refl
 counted-job_with (Some name) None settings = refl
 counted-job_with (Some name) (Some account) None = refl
-counted-job_with (Some name) (Some account) (Some (steps, lines)) = refl
+counted-job_with (Some name) (Some account) (Some settings) = refl
 
 job_card_of : (card : List ℕ) → is_head card ≡ true → job_card card ≡ job_of_fields (fields (drop 4 card))
 job_card_of card h = ap (λ (b : Bool). cond b (job_of_fields (fields (drop 4 card))) None) h
 
-pub job_with_no_account : (name : Option (List ℕ)) (settings : Option (Option ℕ × Option ℕ)) → job_with name None settings ≡ None
+pub job_with_no_account : (name : Option (List ℕ)) (settings : Option Settings) → job_with name None settings ≡ None
 job_with_no_account None settings = refl
 job_with_no_account (Some name) settings = refl
 
@@ -61,18 +65,18 @@ no_job_card card behind name begun h =
     ap (option_map counted) (job_card_of card begun.0 ∙ ap (λ (b : List ℕ). job_of_fields (fields b)) (sym begun.1) ∙ ap job_of_fields h)
 
 -- what stands behind a head's control word is a name's field, an account's and settings, which give this
-pub record HasFields (card name account : List ℕ) (given : Option (Option ℕ × Option ℕ)) : Type 0 where
+pub record HasFields (card name account : List ℕ) (given : Option Settings) : Type 0 where
   pub settings : List (List ℕ)
   pub begun : is_head card ≡ true
   pub text : fields (drop 4 card) ≡ name ∷ account ∷ settings
   pub gives : given ≡ option_map counted_settings (settings_of settings)
 
 -- the fields as the code takes them off
-pub has_fields : (card behind name rest account : List ℕ) (given : Option (Option ℕ × Option ℕ)) (more : Option (Bor (List ℕ)))
+pub has_fields : (card behind name rest account : List ℕ) (given : Option Settings) (more : Option (Bor (List ℕ)))
     → (is_head card ≡ true) × (behind ≡ drop 4 card)
     → fields behind ≡ name ∷ fields rest
     → MatchOption more (fields rest ≡ account ∷ []) (λ settings. fields rest ≡ account ∷ fields settings.now)
-    → MatchOption more (given ≡ Some (None, None)) (λ settings. given ≡ option_map counted_settings (settings_of (fields settings.now)))
+    → MatchOption more (given ≡ Some unset) (λ settings. given ≡ option_map counted_settings (settings_of (fields settings.now)))
     → HasFields card name account given
 has_fields card behind name rest account given None begun first second third = record {
   settings = [];
@@ -88,21 +92,21 @@ has_fields card behind name rest account given (Some settings) begun first secon
 }
 
 -- a job card as the code counts it
-pub counted-job_card : (card name account : List ℕ) (given : Option (Option ℕ × Option ℕ)) → HasFields card name account given
+pub counted-job_card : (card name account : List ℕ) (given : Option Settings) → HasFields card name account given
     → option_map counted (job_card card) ≡ job_with (name_of (stripped name)) (name_of (stripped account)) given
 counted-job_card card name account given h =
     ap (option_map counted) (job_card_of card h.begun ∙ ap job_of_fields h.text)
     ∙ counted-job_with (name_of (stripped name)) (name_of (stripped account)) (settings_of h.settings)
     ∙ ap (job_with (name_of (stripped name)) (name_of (stripped account))) (sym h.gives)
 
-from_job_with : (name account : Option (List ℕ)) (settings : Option (Option ℕ × Option ℕ)) (job : JobCard) → job_with name account settings ≡ Some job
-    → (name ≡ Some job.name) × (account ≡ Some job.account) × (settings ≡ Some (job.steps, job.lines))
+from_job_with : (name account : Option (List ℕ)) (settings : Option Settings) (job : JobCard) → job_with name account settings ≡ Some job
+    → (name ≡ Some job.name) × (account ≡ Some job.account) × (settings ≡ Some job.settings)
 from_job_with None account settings job h = cc
 from_job_with (Some name) None settings job h = cc
 from_job_with (Some name) (Some account) None job h = cc
-from_job_with (Some name) (Some account) (Some (steps, lines)) job h =
+from_job_with (Some name) (Some account) (Some settings) job h =
     let same = same_Some _ job h in
-    (ap (λ (j : JobCard). Some j.name) same, ap (λ (j : JobCard). Some j.account) same, ap (λ (j : JobCard). Some (j.steps, j.lines)) same)
+    (ap (λ (j : JobCard). Some j.name) same, ap (λ (j : JobCard). Some j.account) same, ap (λ (j : JobCard). Some j.settings) same)
 
 -- the parts of what stands behind a job card's control word
 record HasJob (behind : List ℕ) (job : JobCard) : Type 0 where
@@ -112,14 +116,14 @@ record HasJob (behind : List ℕ) (job : JobCard) : Type 0 where
   text : behind ≡ name ++ 44 ∷ (account ++ settings)
   name_is : IsField (IsName job.name) name
   account_is : IsField (IsName job.account) account
-  settings_are : IsSettings job.steps job.lines settings
+  settings_are : IsSettings job.settings settings
 
 from_job_of_fields : (behind : List ℕ) (fs : List (List ℕ)) (job : JobCard) → behind ≡ join_with_byte 44 fs → job_of_fields fs ≡ Some job → HasJob behind job
 from_job_of_fields behind [] job e h = cc
 from_job_of_fields behind (name ∷ []) job e h = cc
 from_job_of_fields behind (name ∷ account ∷ settings) job e h =
     let parts = from_job_with (name_of (stripped name)) (name_of (stripped account)) (settings_of settings) job h in
-    let more = from_settings_of account settings (job.steps, job.lines) parts.2 in
+    let more = from_settings_of account settings job.settings parts.2 in
     record {
       name = name;
       account = account;
@@ -185,13 +189,13 @@ job_card_is card job h =
     let behind : drop 4 card ≡ 32 ∷ rest = ap (drop 4) h.text ∙ drop_at h.word (32 ∷ rest) 4 (word-length (codes "%JOB") h.word h.word_is) in
     let first : Lacks 44 (32 ∷ h.name) = field_lacks 44 (IsName job.name) (32 ∷ h.name) named refl (name_lacks 44 h.name_is.content refl h.name_is.is.form) in
     let second : Lacks 44 h.account = field_lacks 44 (IsName job.account) h.account h.account_is refl (name_lacks 44 h.account_is.content refl h.account_is.is.form) in
-    let more = settings_are h.account h.settings job.steps job.lines second h.settings_are in
+    let more = settings_are h.account h.settings job.settings second h.settings_are in
     job_card_of card head
     ∙ ap (λ (b : List ℕ). job_of_fields (fields b)) behind
     ∙ ap job_of_fields (fields_of_more (32 ∷ h.name) (h.account ++ h.settings) first ∙ ap (λ (fs : List (List ℕ)). (32 ∷ h.name) ∷ fs) more.1)
     ∙ ap (λ (n : Option (List ℕ)). job_with n (name_of (stripped h.account)) (settings_of more.0)) (name_in_field job.name (32 ∷ h.name) named)
     ∙ ap (λ (n : Option (List ℕ)). job_with (Some job.name) n (settings_of more.0)) (name_in_field job.account h.account h.account_is)
-    ∙ ap (λ (s : Option (Option ℕ × Option ℕ)). job_with (Some job.name) (Some job.account) s) more.2
+    ∙ ap (λ (s : Option Settings). job_with (Some job.name) (Some job.account) s) more.2
 
 pub job_card_by_parts : JobCardByParts
 job_card_by_parts card job = (from_job_card card job, job_card_is card job)

@@ -6,12 +6,16 @@ use Rattle.std.proofs.lemmas.Bool.{cases_lt}
 use Rattle.std.proofs.lemmas.Bool.Decides.{nat_tests}
 use Rattle.std.proofs.lemmas.List.{length-append}
 use Rattle.deck_reader.specs.declared.batch.Account.{Account}
+use Rattle.deck_reader.specs.declared.batch.Flaw.{Flaw}
 use Rattle.deck_reader.specs.declared.batch.Flaw.TheVariants as flaws
 use Rattle.deck_reader.specs.declared.forms.JobCard.{JobCard}
 use Rattle.deck_reader.specs.declared.open_job.OpenJob.{OpenJob}
-use Rattle.deck_reader.specs.Forms.{is_data, job_card, counted}
+use Rattle.deck_reader.specs.declared.options.Settings.{Settings}
+use Rattle.deck_reader.specs.Forms.{is_data}
+use Rattle.deck_reader.specs.JobCards.{job_card, counted}
+use Rattle.deck_reader.specs.Options.{unset, steps_of, lines_of, is_up_to, is_in_range, counted_settings}
 use Rattle.deck_reader.specs.CardFlaws.{is_long, is_foul}
-use Rattle.deck_reader.specs.Batch.{is_in_range, steps_of, lines_of, flawed, job_on, job_from, job_of, account_for}
+use Rattle.deck_reader.specs.Batch.{job_view, flawed, job_on, job_from, job_of, account_for}
 use Rattle.deck_reader.specs.Reading.{card_may_run, may_run, Pushes, IsOpenJob, closed}
 use Rattle.deck_reader.proofs.Firsts.{list_any-push, before-none, after-none, before-found, after-found, before-here, after-here, before-past, after-past}
 
@@ -81,8 +85,8 @@ pushed accounts number head behind old new card few at pushes =
 
 kept_by : (range over : Bool) (number count : ℕ) (card : JobCard) (account : Option ℕ) (deck data_cards deck' data' : List (List ℕ))
     → (over ≡ false → range ≡ true → is_some account ≡ true → (deck ≡ deck') × (data_cards ≡ data'))
-    → cond range (cond over (flawed number count card account (steps_of card) (lines_of card) flaws.TooManyCards) (job_on number count card account deck data_cards)) (flawed number count card account 10000 100 flaws.NumberOutOfRange)
-    ≡ cond range (cond over (flawed number count card account (steps_of card) (lines_of card) flaws.TooManyCards) (job_on number count card account deck' data')) (flawed number count card account 10000 100 flaws.NumberOutOfRange)
+    → cond range (cond over (flawed number count card account card.settings flaws.TooManyCards) (job_on number count card account deck data_cards)) (flawed number count card account unset flaws.NumberOutOfRange)
+    ≡ cond range (cond over (flawed number count card account card.settings flaws.TooManyCards) (job_on number count card account deck' data')) (flawed number count card account unset flaws.NumberOutOfRange)
 kept_by false over number count card account deck data_cards deck' data' h = refl
 kept_by true true number count card account deck data_cards deck' data' h = refl
 kept_by true false number count card None deck data_cards deck' data' h = refl
@@ -107,8 +111,8 @@ kept number count true foul card account deck data_cards deck' data' h = refl
 kept number count false true card account deck data_cards deck' data' h = refl
 kept number count false false None account deck data_cards deck' data' h = refl
 kept number count false false (Some card) account deck data_cards deck' data' h =
-    kept_by (is_in_range card) (nat_lt 2000 count) number count card account deck data_cards deck' data'
-    (λ over range there. h (all_true (nat_le count 2000) (is_some account) (is_in_range card) (within count over) there range))
+    kept_by (is_in_range card.settings) (nat_lt 2000 count) number count card account deck data_cards deck' data'
+    (λ over range there. h (all_true (nat_le count 2000) (is_some account) (is_in_range card.settings) (within count over) there range))
 
 same_below : (n most : ℕ) → most ≤ 10000000 → nat_le n most ≡ true → min (2 ^ 32 - 1) n ≡ n
 same_below n most small h = grind (arith, nat_tests)
@@ -134,31 +138,35 @@ option_same : (given : Option ℕ) (usual most : ℕ) → most ≤ 10000000 → 
 option_same None usual most small h = refl
 option_same (Some n) usual most small h = same_below n most small (both (nat_le 1 n) (nat_le n most) h).1
 
-range_same : (card : JobCard) → is_in_range (counted card) ≡ is_in_range card
-range_same card =
-    ap (λ (b : Bool). b && (nat_le 1 (lines_of (counted card)) && nat_le (lines_of (counted card)) 500)) (option_range card.steps 10000 10000000 (omega arith))
-    ∙ ap (λ (b : Bool). (nat_le 1 (steps_of card) && nat_le (steps_of card) 10000000) && b) (option_range card.lines 100 500 (omega arith))
+range_same : (settings : Settings) → is_in_range (counted_settings settings) ≡ is_in_range settings
+range_same settings =
+    ap (λ (b : Bool). b && is_up_to 500 (lines_of (counted_settings settings))) (option_range settings.steps 10000 10000000 (omega arith))
+    ∙ ap (λ (b : Bool). is_up_to 10000000 (steps_of settings) && b) (option_range settings.lines 100 500 (omega arith))
 
-over_same : (over : Bool) (number count : ℕ) (card : JobCard) (account : Option ℕ) (deck data_cards : List (List ℕ)) → steps_of (counted card) ≡ steps_of card → lines_of (counted card) ≡ lines_of card
-    → cond over (flawed number count (counted card) account (steps_of (counted card)) (lines_of (counted card)) flaws.TooManyCards) (job_on number count (counted card) account deck data_cards)
-    ≡ cond over (flawed number count card account (steps_of card) (lines_of card) flaws.TooManyCards) (job_on number count card account deck data_cards)
-over_same true number count card account deck data_cards steps lines =
-    ap (λ (n : ℕ). flawed number count card account n (lines_of (counted card)) flaws.TooManyCards) steps ∙ ap (λ (n : ℕ). flawed number count card account (steps_of card) n flaws.TooManyCards) lines
-over_same false number count card None deck data_cards steps lines =
-    ap (λ (n : ℕ). flawed number count card None n (lines_of (counted card)) flaws.AccountUnknown) steps ∙ ap (λ (n : ℕ). flawed number count card None (steps_of card) n flaws.AccountUnknown) lines
-over_same false number count card (Some a) deck data_cards steps lines =
-    ap (λ (n : ℕ). record (job_on number count card (Some a) deck data_cards) { steps = n; lines = lines_of (counted card) }) steps
-    ∙ ap (λ (n : ℕ). record (job_on number count card (Some a) deck data_cards) { steps = steps_of card; lines = n }) lines
+-- settings in range are the same for a job, also where their numbers stop at the largest of 32 bits
+record IsSame (settings : Settings) : Type 0 where
+  steps : steps_of (counted_settings settings) ≡ steps_of settings
+  lines : lines_of (counted_settings settings) ≡ lines_of settings
 
-counted_by : (range : Bool) (over : Bool) (number count : ℕ) (card : JobCard) (account : Option ℕ) (deck data_cards : List (List ℕ)) → is_in_range card ≡ range
-    → cond range (cond over (flawed number count (counted card) account (steps_of (counted card)) (lines_of (counted card)) flaws.TooManyCards) (job_on number count (counted card) account deck data_cards)) (flawed number count (counted card) account 10000 100 flaws.NumberOutOfRange)
-    ≡ cond range (cond over (flawed number count card account (steps_of card) (lines_of card) flaws.TooManyCards) (job_on number count card account deck data_cards)) (flawed number count card account 10000 100 flaws.NumberOutOfRange)
+same_in_range : (settings : Settings) → is_in_range settings ≡ true → IsSame settings
+same_in_range settings is =
+    let ranges = both (is_up_to 10000000 (steps_of settings)) (is_up_to 500 (lines_of settings)) is in
+    record { steps = option_same settings.steps 10000 10000000 (omega arith) ranges.0; lines = option_same settings.lines 100 500 (omega arith) ranges.1 }
+
+same_job : (settings : Settings) → IsSame settings → (number : ℕ) (card : JobCard) (account : Option ℕ) (deck data_cards : List (List ℕ)) (count : ℕ) (flaw : Option Flaw)
+    → job_view number card.name card.account account deck data_cards (counted_settings settings) count flaw ≡ job_view number card.name card.account account deck data_cards settings count flaw
+same_job settings same number card account deck data_cards count flaw =
+    let view = job_view number card.name card.account account deck data_cards settings count flaw in
+    ap (λ (n : ℕ). record view { steps = n; lines = lines_of (counted_settings settings) }) same.steps
+    ∙ ap (λ (n : ℕ). record view { steps = steps_of settings; lines = n }) same.lines
+
+counted_by : (range over : Bool) (number count : ℕ) (card : JobCard) (account : Option ℕ) (deck data_cards : List (List ℕ)) → is_in_range card.settings ≡ range
+    → cond range (cond over (flawed number count (counted card) account (counted card).settings flaws.TooManyCards) (job_on number count (counted card) account deck data_cards)) (flawed number count (counted card) account unset flaws.NumberOutOfRange)
+    ≡ cond range (cond over (flawed number count card account card.settings flaws.TooManyCards) (job_on number count card account deck data_cards)) (flawed number count card account unset flaws.NumberOutOfRange)
 counted_by false over number count card account deck data_cards is = refl
-counted_by true over number count card account deck data_cards is =
-    let ranges = both (nat_le 1 (steps_of card) && nat_le (steps_of card) 10000000) _ is in
-    let steps : steps_of (counted card) ≡ steps_of card = option_same card.steps 10000 10000000 (omega arith) ranges.0 in
-    let lines : lines_of (counted card) ≡ lines_of card = option_same card.lines 100 500 (omega arith) ranges.1 in
-    over_same over number count card account deck data_cards steps lines
+counted_by true true number count card account deck data_cards is = same_job card.settings (same_in_range card.settings is) number card account [] [] count (Some flaws.TooManyCards)
+counted_by true false number count card None deck data_cards is = same_job card.settings (same_in_range card.settings is) number card None [] [] count (Some flaws.AccountUnknown)
+counted_by true false number count card (Some a) deck data_cards is = same_job card.settings (same_in_range card.settings is) number card (Some a) deck data_cards count None
 
 -- numbers that stop at the largest of 32 bits make the same job
 counted_same : (number count : ℕ) (long foul : Bool) (card : Option JobCard) (account : Option ℕ) (deck data_cards : List (List ℕ))
@@ -167,8 +175,8 @@ counted_same number count true foul card account deck data_cards = refl
 counted_same number count false true card account deck data_cards = refl
 counted_same number count false false None account deck data_cards = refl
 counted_same number count false false (Some card) account deck data_cards =
-    ap (λ (b : Bool). cond b (cond (nat_lt 2000 count) (flawed number count (counted card) account (steps_of (counted card)) (lines_of (counted card)) flaws.TooManyCards) (job_on number count (counted card) account deck data_cards)) (flawed number count (counted card) account 10000 100 flaws.NumberOutOfRange)) (range_same card)
-    ∙ counted_by (is_in_range card) (nat_lt 2000 count) number count card account deck data_cards refl
+    ap (λ (b : Bool). cond b (cond (nat_lt 2000 count) (flawed number count (counted card) account (counted card).settings flaws.TooManyCards) (job_on number count (counted card) account deck data_cards)) (flawed number count (counted card) account unset flaws.NumberOutOfRange)) (range_same card.settings)
+    ∙ counted_by (is_in_range card.settings) (nat_lt 2000 count) number count card account deck data_cards refl
 
 -- an open job that is closed is the job that it stands for
 pub closed_is : (accounts : List Account) (number : ℕ) (head : List ℕ) (behind : List (List ℕ)) (job : OpenJob) → IsOpenJob accounts number head behind job → closed job ≡ job_of accounts number head behind

@@ -1,5 +1,5 @@
 -- The batch that an input is.
-use Rattle.std.specs.Prelude.{ℕ, ◌+◌, ◌-◌, Bool, ◌&&◌, ◌||◌, not, List, [], ◌∷◌, ◌++◌, nat_lt, nat_le, if◌then◌else◌, length, take, map, codes, bytes_eq, Option, Some, None, unwrap_or, filter, count_by, position, sum_by}
+use Rattle.std.specs.Prelude.{ℕ, ◌+◌, ◌-◌, Bool, ◌&&◌, ◌||◌, not, List, [], ◌∷◌, ◌++◌, nat_lt, if◌then◌else◌, length, take, map, codes, bytes_eq, Option, Some, None, filter, count_by, position, sum_by}
 use Rattle.std.specs.List.{list_any, filter_map, before_first, after_first}
 use Rattle.std.specs.Option.{option_map}
 use Rattle.deck_reader.specs.declared.batch.Flaw.{Flaw}
@@ -7,9 +7,12 @@ use Rattle.deck_reader.specs.declared.batch.Flaw.TheVariants as flaws
 use Rattle.deck_reader.specs.declared.batch.Account.{Account}
 use Rattle.deck_reader.specs.declared.batch.Batch.{Batch}
 use Rattle.deck_reader.specs.declared.forms.JobCard.{JobCard}
+use Rattle.deck_reader.specs.declared.options.Settings.{Settings}
 use Rattle.deck_reader.specs.JobView.{JobView}
 use Rattle.deck_reader.specs.Cards.{cleaned, ended, cards}
-use Rattle.deck_reader.specs.Forms.{is_head, is_data, is_end, job_card, account_card}
+use Rattle.deck_reader.specs.Forms.{is_head, is_data, is_end, account_card}
+use Rattle.deck_reader.specs.JobCards.{job_card}
+use Rattle.deck_reader.specs.Options.{unset, steps_of, lines_of, is_in_range}
 use Rattle.deck_reader.specs.CardFlaws.{is_long, is_foul}
 
 -- the account of this name, by its number
@@ -56,33 +59,28 @@ body run = before_first is_end run.behind
 abbrev pub outside : Run → List (List ℕ)
 outside run = after_first is_end run.behind
 
-abbrev pub steps_of : JobCard → ℕ
-steps_of card = unwrap_or card.steps 10000
-
-abbrev pub lines_of : JobCard → ℕ
-lines_of card = unwrap_or card.lines 100
-
--- 1 to 10,000,000 steps and 1 to 500 lines
-abbrev pub is_in_range : JobCard → Bool
-is_in_range card = (nat_le 1 (steps_of card) && nat_le (steps_of card) 10000000) && (nat_le 1 (lines_of card) && nat_le (lines_of card) 500)
+-- a job with these settings
+abbrev pub job_view : ℕ → List ℕ → List ℕ → Option ℕ → List (List ℕ) → List (List ℕ) → Settings → ℕ → Option Flaw → JobView
+job_view number name account_name account deck data_cards settings count flaw =
+    record { number = number; name = name; account_name = account_name; account = account; deck = deck; data_cards = data_cards; steps = steps_of settings; lines = lines_of settings; cards = count; flaw = flaw }
 
 -- a job that can't be read
 abbrev pub unread : ℕ → ℕ → Flaw → JobView
-unread number count flaw = record { number = number; name = codes "?"; account_name = codes "?"; account = None; deck = []; data_cards = []; steps = 10000; lines = 100; cards = count; flaw = Some flaw }
+unread number count flaw = job_view number (codes "?") (codes "?") None [] [] unset count (Some flaw)
 
 -- a job that is flawed though its card can be read
-abbrev pub flawed : ℕ → ℕ → JobCard → Option ℕ → ℕ → ℕ → Flaw → JobView
-flawed number count card account steps lines flaw = record { number = number; name = card.name; account_name = card.account; account = account; deck = []; data_cards = []; steps = steps; lines = lines; cards = count; flaw = Some flaw }
+abbrev pub flawed : ℕ → ℕ → JobCard → Option ℕ → Settings → Flaw → JobView
+flawed number count card account settings flaw = job_view number card.name card.account account [] [] settings count (Some flaw)
 
 abbrev pub job_on : ℕ → ℕ → JobCard → Option ℕ → List (List ℕ) → List (List ℕ) → JobView
-job_on number count card None deck data_cards = flawed number count card None (steps_of card) (lines_of card) flaws.AccountUnknown
-job_on number count card (Some account) deck data_cards = record { number = number; name = card.name; account_name = card.account; account = Some account; deck = deck; data_cards = data_cards; steps = steps_of card; lines = lines_of card; cards = count; flaw = None }
+job_on number count card None deck data_cards = flawed number count card None card.settings flaws.AccountUnknown
+job_on number count card (Some account) deck data_cards = job_view number card.name card.account (Some account) deck data_cards card.settings count None
 
 abbrev pub job_by : ℕ → ℕ → Option JobCard → Option ℕ → List (List ℕ) → List (List ℕ) → JobView
 job_by number count None account deck data_cards = unread number count flaws.JobCard
 job_by number count (Some card) account deck data_cards =
-    if is_in_range card then (if nat_lt 2000 count then flawed number count card account (steps_of card) (lines_of card) flaws.TooManyCards else job_on number count card account deck data_cards)
-    else flawed number count card account 10000 100 flaws.NumberOutOfRange
+    if is_in_range card.settings then (if nat_lt 2000 count then flawed number count card account card.settings flaws.TooManyCards else job_on number count card account deck data_cards)
+    else flawed number count card account unset flaws.NumberOutOfRange
 
 -- the job of these parts, with the least flaw that applies: its number, how many cards it has, whether one is over 80 bytes and
 -- whether one holds a byte that isn't allowed, what its job card states, its account, its deck and its data

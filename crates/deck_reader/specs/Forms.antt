@@ -1,11 +1,10 @@
 -- The forms of the cards, as functions that give a card's parts.
 use Rattle.std.specs.Prelude.{ℕ, ◌+◌, ◌-◌, ◌^◌, min, position, Bool, true, false, ◌&&◌, ◌||◌, List, [], ◌∷◌, ◌==◌, nat_le, if◌then◌else◌, length, take, drop, map, codes, bytes_eq, Option, Some, None}
-use Rattle.std.specs.List.{list_all, slice_split, prefix_len}
-use Rattle.std.specs.Option.{option_map, option_or, option_zip}
+use Rattle.std.specs.List.{list_all, prefix_len}
+use Rattle.std.specs.Option.{option_map}
 use Rattle.std.specs.Str.Parse.{digits_value}
 use Rattle.short_text.specs.Blanks.{trimmed}
 use Rattle.deck_reader.specs.declared.forms.AccountCard.{AccountCard}
-use Rattle.deck_reader.specs.declared.forms.JobCard.{JobCard}
 
 -- a small letter
 abbrev pub is_small : ℕ → Bool
@@ -101,69 +100,9 @@ name_and_balance (Some (name, rest)) = account_with (name_of name) (balance_of (
 abbrev pub account_card : List ℕ → Option AccountCard
 account_card card = if is_account card then name_and_balance (parted 32 (behind_blanks (drop 8 card))) else None
 
--- the number that stands behind this word and an equals sign, with blanks round both
-abbrev pub number_behind : List ℕ → Option (List ℕ × List ℕ) → Option ℕ
-number_behind word None = None
-number_behind word (Some (front, digits)) =
-    if bytes_eq (folded (stripped front)) word then number_of (stripped digits) else None
-
--- the number of a setting of steps
-abbrev pub steps_of : List ℕ → Option ℕ
-steps_of field = number_behind (codes "STEPS") (parted 61 field)
-
--- the number of a setting of lines
-abbrev pub lines_of : List ℕ → Option ℕ
-lines_of field = number_behind (codes "LINES") (parted 61 field)
-
--- what one setting gives for steps and for lines, from its number as either
-abbrev pub one_setting : Option ℕ → Option ℕ → Option (Option ℕ × Option ℕ)
-one_setting None None = None
-one_setting None (Some lines) = Some (None, Some lines)
-one_setting (Some steps) lines = Some (Some steps, None)
-
--- what two settings give
-abbrev pub both_given : Option (ℕ × ℕ) → Option (Option ℕ × Option ℕ)
-both_given numbers = option_map (λ p. (Some p.0, Some p.1)) numbers
-
--- what the settings of a job card give for steps and for lines, in either order and each at most once
-abbrev pub settings_of : List (List ℕ) → Option (Option ℕ × Option ℕ)
-settings_of [] = Some (None, None)
-settings_of (one ∷ []) = one_setting (steps_of one) (lines_of one)
-settings_of (one ∷ two ∷ []) = both_given (option_or (option_zip (steps_of one) (lines_of two)) (option_zip (steps_of two) (lines_of one)))
-settings_of (one ∷ two ∷ three ∷ more) = None
-
--- a job card with these names, and what it gives for steps and for lines
-abbrev pub job_with : Option (List ℕ) → Option (List ℕ) → Option (Option ℕ × Option ℕ) → Option JobCard
-job_with None account settings = None
-job_with (Some name) None settings = None
-job_with (Some name) (Some account) None = None
-job_with (Some name) (Some account) (Some (steps, lines)) = Some (record { name = name; account = account; steps = steps; lines = lines })
-
--- the fields of a job card: a name, an account's name and the settings
-abbrev pub job_of_fields : List (List ℕ) → Option JobCard
-job_of_fields [] = None
-job_of_fields (name ∷ []) = None
-job_of_fields (name ∷ account ∷ settings) = job_with (name_of (stripped name)) (name_of (stripped account)) (settings_of settings)
-
--- the fields with commas between them
-abbrev pub fields : List ℕ → List (List ℕ)
-fields bytes = slice_split (λ b. b == 44) bytes
-
--- the parts of a job card: the control word, and then fields
-abbrev pub job_card : List ℕ → Option JobCard
-job_card card = if is_head card then job_of_fields (fields (drop 4 card)) else None
-
 -- a number that stops at the largest of 32 bits, as the code counts
 abbrev pub in_32_bits : ℕ → ℕ
 in_32_bits n = min (2 ^ 32 - 1) n
-
--- steps and lines that stop there
-abbrev pub counted_settings : Option ℕ × Option ℕ → Option ℕ × Option ℕ
-counted_settings (steps, lines) = (option_map in_32_bits steps, option_map in_32_bits lines)
-
--- a job card with numbers that stop at the largest of 32 bits
-abbrev pub counted : JobCard → JobCard
-counted job = record job { steps = option_map in_32_bits job.steps; lines = option_map in_32_bits job.lines }
 
 -- a byte that may stand on a card
 abbrev pub is_allowed : ℕ → Bool

@@ -1,6 +1,9 @@
 pub mod Cards
 pub mod CardLaws
 pub mod Forms
+pub mod Texts
+pub mod Options
+pub mod JobCards
 pub mod CardForms
 pub mod CardFlaws
 pub mod Flaws

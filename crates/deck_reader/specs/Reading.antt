@@ -8,14 +8,16 @@ use Rattle.deck_reader.specs.declared.open_job.OpenJob.{OpenJob}
 use Rattle.deck_reader.specs.declared.reading.Reading.{Reading}
 use Rattle.deck_reader.specs.declared.reading.Stage.{Stage}
 use Rattle.deck_reader.specs.declared.reading.Stage.TheVariants.{Front, Inside, Outside}
-use Rattle.deck_reader.specs.Forms.{is_head, is_data, job_card, counted}
-use Rattle.deck_reader.specs.Batch.{Run, runs, before_head, accounts_of, openings_in, strays, written, jobs_of, is_in_range, is_ended, account_for, job_from}
+use Rattle.deck_reader.specs.Forms.{is_head, is_data}
+use Rattle.deck_reader.specs.JobCards.{job_card, counted}
+use Rattle.deck_reader.specs.Options.{is_in_range}
+use Rattle.deck_reader.specs.Batch.{Run, runs, before_head, accounts_of, openings_in, strays, written, jobs_of, is_ended, account_for, job_from}
 use Rattle.deck_reader.specs.JobView.{JobView}
 use Rattle.deck_reader.specs.CardFlaws.{is_long, is_foul}
 
 abbrev pub card_may_run : Option JobCard → Bool
 card_may_run None = false
-card_may_run (Some card) = is_in_range card
+card_may_run (Some card) = is_in_range card.settings
 
 -- no flaw applies by now
 abbrev pub may_run : OpenJob → Bool

@@ -1,9 +1,11 @@
-ghost use Rattle.std.specs.Prelude.{◌≡◌, ◌≤◌, ◌==◌, [], ◌∷◌, true, false, ◌||◌, None, Some, length, drop, bytes_eq, MatchOption};
+ghost use Rattle.std.specs.Prelude.{◌≡◌, ◌≤◌, ◌==◌, [], ◌∷◌, true, false, ◌||◌, length, drop, bytes_eq, MatchOption};
 ghost use Rattle.std.specs.List.{list_all, prefix_len};
 ghost use Rattle.std.specs.Option.{option_map};
-ghost use Rattle.deck_reader.specs.Forms.{is_letter, is_digit, is_name, folded, ends_a_word, is_control, is_head, is_data, is_end, is_allowed, behind_blanks, stripped, number_of, name_of, balance_of, account_card, in_32_bits, number_behind, steps_of, lines_of, one_setting, settings_of, fields, job_card, counted, counted_settings, parted};
+ghost use Rattle.deck_reader.specs.Forms.{is_letter, is_digit, is_name, folded, ends_a_word, is_control, is_head, is_data, is_end, is_allowed, behind_blanks, stripped, number_of, name_of, balance_of, account_card, in_32_bits};
+ghost use Rattle.deck_reader.specs.JobCards.{fields, job_card, counted};
 
 use crate::bytes::split_once;
+use crate::options::{Settings, settings_of};
 use short_text::{Short, without_blanks};
 use value_ops::Name;
 
@@ -18,12 +20,6 @@ const DATA: &[u8] = b"%DATA";
 
 /// The control word of the card that ends a job.
 const END: &[u8] = b"%EOJ";
-
-/// The setting that limits a job's steps.
-const STEPS: &[u8] = b"STEPS";
-
-/// The setting that limits a job's lines.
-const LINES: &[u8] = b"LINES";
 
 /// The most bytes of a name.
 const NAME_BYTES: usize = 8;
@@ -40,17 +36,15 @@ pub struct AccountCard {
     pub balance: u64,
 }
 
-/// What a job card states. A number is `None` where the card doesn't give it.
+/// What a job card states.
 #[derive(Clone, Copy)]
 pub struct JobCard {
     /// The job's name, in capitals.
     pub name: Name,
     /// The name of the account that pays for the job, in capitals.
     pub account: Name,
-    /// The most steps that the job may take.
-    pub steps: Option<u32>,
-    /// The most lines that the job may print.
-    pub lines: Option<u32>,
+    /// What its options give.
+    pub settings: Settings,
 }
 
 /// Whether the byte may stand on a card: a blank, or a character that prints.
@@ -99,12 +93,11 @@ pub fn job_card(card: &[u8]) -> Option<JobCard>
 {
     let (name, rest) = next_field(behind_word(card, HEAD)?);
     let (account, settings) = next_field(rest?);
-    let (steps, lines) = settings_of(settings)?;
+    let settings = settings_of(settings)?;
     Some(JobCard {
         name: name_of(stripped(name))?,
         account: name_of(stripped(account))?,
-        steps,
-        lines,
+        settings,
     })
 }
 
@@ -123,7 +116,7 @@ fn behind_word<'a>(card: &'a [u8], word: &[u8]) -> Option<&'a [u8]>
 }
 
 /// Whether this is the word, which is in capitals, in either case of letters.
-fn is_word(text: &[u8], word: &[u8]) -> bool
+pub fn is_word(text: &[u8], word: &[u8]) -> bool
     requires { folded word.now ≡ word.now }
     ensures { result ≡ bytes_eq (folded text.now) word.now }
 {
@@ -152,7 +145,7 @@ fn leading_blanks(bytes: &[u8]) -> usize
 }
 
 /// The bytes without the blanks on either side.
-fn stripped(bytes: &[u8]) -> &[u8]
+pub fn stripped(bytes: &[u8]) -> &[u8]
     ensures { result.now ≡ stripped bytes.now }
 {
     without_blanks(behind_blanks(bytes))
@@ -191,7 +184,7 @@ fn are_alphanumeric(bytes: &[u8]) -> bool
 }
 
 /// The number that digits stand for. A number past the largest `u32` is given as that.
-fn number_of(digits: &[u8]) -> Option<u32>
+pub fn number_of(digits: &[u8]) -> Option<u32>
     ensures { result ≡ option_map in_32_bits (number_of digits.now) }
 {
     if digits.is_empty() {
@@ -229,60 +222,5 @@ fn next_field(bytes: &[u8]) -> (&[u8], Option<&[u8]>)
     match split_once(bytes, b',') {
         None => (bytes, None),
         Some((field, rest)) => (field, Some(rest)),
-    }
-}
-
-/// The steps and the lines that settings give, in either order and each at most once.
-fn settings_of(settings: Option<&[u8]>) -> Option<(Option<u32>, Option<u32>)>
-    ensures { MatchOption settings.entry (result ≡ Some (None, None)) (λ given.
-        result ≡ option_map counted_settings (settings_of (fields given.now))) }
-{
-    let Some(settings) = settings else {
-        return Some((None, None));
-    };
-    match split_once(settings, b',') {
-        None => one_setting(settings),
-        Some((one, two)) => {
-            // A third setting would stand in the second, which is none with a comma in it.
-            let (steps, lines) = steps_of(one)
-                .zip(lines_of(two))
-                .or(steps_of(two).zip(lines_of(one)))?;
-            Some((Some(steps), Some(lines)))
-        }
-    }
-}
-
-fn one_setting(setting: &[u8]) -> Option<(Option<u32>, Option<u32>)>
-    ensures { result ≡ option_map counted_settings (one_setting (steps_of setting.now) (lines_of setting.now)) }
-{
-    match (steps_of(setting), lines_of(setting)) {
-        (None, None) => None,
-        (None, Some(lines)) => Some((None, Some(lines))),
-        (Some(steps), _) => Some((Some(steps), None)),
-    }
-}
-
-fn steps_of(setting: &[u8]) -> Option<u32>
-    ensures { result ≡ option_map in_32_bits (steps_of setting.now) }
-{
-    number_behind(setting, STEPS)
-}
-
-fn lines_of(setting: &[u8]) -> Option<u32>
-    ensures { result ≡ option_map in_32_bits (lines_of setting.now) }
-{
-    number_behind(setting, LINES)
-}
-
-/// The number that stands behind this word and an equals sign.
-fn number_behind(setting: &[u8], word: &[u8]) -> Option<u32>
-    requires { folded word.now ≡ word.now }
-    ensures { result ≡ option_map in_32_bits (number_behind word.now (parted 61 setting.now)) }
-{
-    let (front, digits) = split_once(setting, b'=')?;
-    if is_word(stripped(front), word) {
-        number_of(stripped(digits))
-    } else {
-        None
     }
 }

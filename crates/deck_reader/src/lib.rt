@@ -9,6 +9,7 @@ mod forms;
 mod laws;
 mod listed;
 mod open_job;
+mod options;
 mod queue;
 mod reader;
 mod reading;

@@ -2,12 +2,13 @@ ghost use Rattle.std.specs.Prelude.{◌≡◌, ◌≤◌, ◌<◌, ◌+◌, [], 
 ghost use Rattle.std.specs.List.{list_all, list_any};
 ghost use Rattle.deck_reader.specs.Forms.{is_allowed};
 ghost use Rattle.deck_reader.specs.CardFlaws.{is_long, is_foul};
-ghost use Rattle.deck_reader.specs.Batch.{is_in_range, steps_of, lines_of, account_for, job_from, unread};
+ghost use Rattle.deck_reader.specs.Batch.{account_for, job_from, unread};
 
 use crate::accounts;
 use crate::batch::{Account, Flaw, Job};
 use crate::forms::{self, JobCard};
 use crate::listed::Listed;
+use crate::options::UNSET;
 use std::alloc::{AllocError, Global};
 use value_ops::{Card, Name};
 
@@ -16,39 +17,6 @@ const CARD_BYTES: usize = 80;
 
 /// The most cards of a job, the job card among them.
 const MOST_CARDS: u32 = 2_000;
-
-/// The most steps of a job whose card gives none.
-const STEPS: u32 = 10_000;
-
-/// The most steps that a card may give.
-const MOST_STEPS: u32 = 10_000_000;
-
-/// The most lines of a job whose card gives none.
-const LINES: u32 = 100;
-
-/// The most lines that a card may give.
-const MOST_LINES: u32 = 500;
-
-/// The most steps that a job card gives its job.
-fn most_steps(card: &JobCard) -> u32
-    ensures { result ≡ steps_of card.now }
-{
-    card.steps.unwrap_or(STEPS)
-}
-
-/// The most lines that a job card gives its job.
-fn most_lines(card: &JobCard) -> u32
-    ensures { result ≡ lines_of card.now }
-{
-    card.lines.unwrap_or(LINES)
-}
-
-/// Whether the numbers of a job card are in range.
-fn is_in_range(card: &JobCard) -> bool
-    ensures { result ≡ is_in_range card.now }
-{
-    (1..=MOST_STEPS).contains(&most_steps(card)) && (1..=MOST_LINES).contains(&most_lines(card))
-}
 
 /// A job whose cards are still coming.
 #[derive(Drop)]
@@ -126,7 +94,7 @@ impl OpenJob {
             && !self.has_foul
             && self.cards <= MOST_CARDS
             && self.account.is_some()
-            && self.card.is_some_and(|c| is_in_range(&c))
+            && self.card.is_some_and(|c| c.settings.are_in_range())
     }
 
     /// Takes the job's next card.
@@ -175,7 +143,7 @@ impl OpenJob {
         let Some(card) = card else {
             return unread(alloc, number, cards, Flaw::JobCard);
         };
-        let flaw = if !is_in_range(&card) {
+        let flaw = if !card.settings.are_in_range() {
             Some(Flaw::NumberOutOfRange)
         } else if cards > MOST_CARDS {
             Some(Flaw::TooManyCards)
@@ -188,9 +156,9 @@ impl OpenJob {
             None => (deck, data_cards),
             Some(_) => (Listed::new(alloc), Listed::new(alloc)),
         };
-        let (steps, lines) = match flaw {
-            Some(Flaw::NumberOutOfRange) => (STEPS, LINES),
-            _ => (most_steps(&card), most_lines(&card)),
+        let settings = match flaw {
+            Some(Flaw::NumberOutOfRange) => UNSET,
+            _ => card.settings,
         };
         Job {
             number,
@@ -199,8 +167,8 @@ impl OpenJob {
             account,
             deck,
             data_cards,
-            steps,
-            lines,
+            steps: settings.steps(),
+            lines: settings.lines(),
             cards,
             flaw,
         }
@@ -229,8 +197,8 @@ fn unread(alloc: Global, number: u32, cards: u32, flaw: Flaw) -> Job
         account: None,
         deck: Listed::new(alloc),
         data_cards: Listed::new(alloc),
-        steps: STEPS,
-        lines: LINES,
+        steps: UNSET.steps(),
+        lines: UNSET.lines(),
         cards,
         flaw: Some(flaw),
     }

@@ -1,7 +1,7 @@
 use Rattle.std.proofs.Common.{refl, sym, ap, ◌∙◌}
 use Rattle.deck_reader.specs.CardFlaws.{is_long, is_foul}
 use Rattle.deck_reader.specs.Batch.{account_for}
-use Rattle.deck_reader.specs.Forms.{job_card}
+use Rattle.deck_reader.specs.JobCards.{job_card}
 use Rattle.deck_reader.proofs.Firsts.{or_false}
 use Rattle.deck_reader.proofs.OpenJobs.{account_for-counted}
 use Rattle.deck_reader.proofs.open_job.OpenJob.new.Goals as goal
