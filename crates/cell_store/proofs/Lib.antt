@@ -1,5 +1,9 @@
 pub mod CellLines
+pub mod Links
+pub mod Displays
+pub mod Filling
 pub mod MachineWords
 pub mod Counting
 pub mod Indexing
 pub mod Placing
+pub mod Restoring

@@ -4,6 +4,7 @@
 mod cells;
 mod descriptor;
 mod dimension;
+mod display;
 mod entries;
 mod items;
 mod shelf;
@@ -12,5 +13,6 @@ mod store;
 pub use cells::{Bounds, Closed, Part, Procedure, Variable, Wide, Word};
 pub use descriptor::Descriptor;
 pub use dimension::Dimension;
+pub use display::PROGRAM;
 pub use entries::{Entry, Frame, Mark, Purpose, Refusal};
 pub use store::Store;

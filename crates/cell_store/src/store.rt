@@ -1,14 +1,16 @@
-ghost use Rattle.std.specs.Prelude.{◌≡◌, ◌≤◌, ◌<◌, ◌+◌, ◌-◌, ℕ, [], ◌∷◌, ◌++◌, Some, None, Ok, Err, IfOk, IfSome, OnOk, OnErr, length, take, max, false, is_some, nat_lt, if◌then◌else◌, option_copied, slice_get, slice_set};
+ghost use Rattle.std.specs.Prelude.{◌≡◌, ◌≤◌, ◌<◌, ◌+◌, ◌-◌, ℕ, [], ◌∷◌, ◌++◌, Some, None, Ok, Err, IfOk, IfSome, IsSome, OnOk, OnErr, length, take, max, true, false, is_some, nat_lt, nat_le, ◌&&◌, if◌then◌else◌, option_copied, slice_get, slice_set};
 ghost use Rattle.std.specs.Option.{option_and_then};
 ghost use Rattle.cell_store.specs.Cells.{a_wide, word_in, wide_in, text_over, nothing};
 ghost use Rattle.cell_store.specs.Words.{word_of, is_wide};
 ghost use Rattle.cell_store.specs.Held.{word_cell};
 ghost use Rattle.value_ops.specs.Strings.{filled};
-ghost use Rattle.cell_store.specs.Stores.{empty, cells_allowed, with_cells, with_cell_at, array_allowed, new_array, array_cells, entered, text_allowed, is_below as below, newest, left, cut_back};
+ghost use Rattle.cell_store.specs.Links.{outwards, is_below, start_at, displayed};
+ghost use Rattle.cell_store.specs.Stores.{empty, cells_allowed, with_cells, with_cell_at, array_allowed, new_array, array_cells, entered, text_allowed, newest, left, cut_back};
 
 use crate::cells::{Wide, Word};
 use crate::descriptor::Descriptor;
 use crate::dimension::{MOST_CELLS, count_elements};
+use crate::display::{Display, PROGRAM};
 use crate::entries::{Entry, Frame, Mark, Refusal};
 use crate::shelf::Shelf;
 use std::alloc::{AllocError, Global};
@@ -29,6 +31,8 @@ pub struct Store {
     /// What the text of each frame has given.
     answers: Shelf,
     current: Option<u32>,
+    /// That of the text that runs, where it is the program or has a frame.
+    display: Display,
     depth: u32,
 }
 
@@ -39,6 +43,7 @@ impl Model for Store {
     ghost Value = { StoreView };
 
     ghost use Rattle.cell_store.specs.Held.{Stored};
+    ghost use Rattle.cell_store.specs.Displays.{Displayed, HasPlaces};
 
     ghost view = { λ s. record {
       cells = s.cells.cells;
@@ -51,7 +56,9 @@ impl Model for Store {
       frame_room = s.answers.room;
     } };
 
-    ghost invariant = { λ s. Stored s.cells.room (length s.entries.items) s.entry_room (vec_capacity s.entries) (length s.frames.items) (length s.answers.cells) s.answers.room (vec_capacity s.frames) };
+    ghost invariant = { λ s. Stored s.cells.room (length s.entries.items) s.entry_room (vec_capacity s.entries) (length s.frames.items) (length s.answers.cells) s.answers.room (vec_capacity s.frames)
+        × Displayed s.frames.items s.current s.display.entered.items s.display.shown.items s.display.level s.display.torn
+        × HasPlaces s.answers.room (length s.display.entered.items) (length s.display.shown.items) };
 }
 
 impl Store {
@@ -68,6 +75,7 @@ impl Store {
             frames: Vec::new(alloc),
             answers: Shelf::new(alloc),
             current: None,
+            display: Display::new(alloc)?,
             depth: 0,
         })
     }
@@ -105,6 +113,7 @@ impl Store {
         if self.answers.room() < room {
             self.frames
                 .reserve_exact((room - self.answers.len()) as usize)?;
+            self.display.make_room(room)?;
             self.answers.make_room(room)?;
         }
         Ok(())
@@ -116,6 +125,7 @@ impl Store {
     {
         self.cells.cut(0);
         self.entries.clear();
+        self.display.clear(&self.frames);
         self.frames.clear();
         self.answers.cut(0);
         self.current = None;
@@ -340,9 +350,89 @@ impl Store {
         self.current
     }
 
+    /// Whether the text that runs is the program or has a frame.
+    #[inline(always)]
+    fn is_there(&self) -> bool
+        ensures { result ≡ is_below self.now.current (length self.now.frames) }
+    {
+        match self.current {
+            None => true,
+            Some(number) => number < self.answers.len(),
+        }
+    }
+
+    /// The texts that the one that runs stands inside, and itself, by their levels, where there is one of that level: the
+    /// level of the program is 0, and that of a text one more than that of the text round it. Each goes by its frame, and the
+    /// program, which has none, by `PROGRAM`.
+    #[inline(always)]
+    pub fn display(&self, level: u16) -> Option<u32>
+        ensures { result ≡ displayed self.now.frames self.now.current level }
+    {
+        if !self.is_there() {
+            return if level == 0 { self.current } else { None };
+        }
+        if u32::from(level) <= self.display.level {
+            Some(self.display.shown[usize::from(level)].text)
+        } else {
+            None
+        }
+    }
+
+    /// The text so many links out from the one that runs, by its frame; the program has none.
+    #[inline(always)]
+    pub fn text_out(&self, links: u32) -> Option<u32>
+        requires { IsSome (outwards self.now.frames self.now.current links) }
+        ensures { outwards self.now.frames self.now.current links ≡ Some result }
+    {
+        if links == 0 {
+            return self.current;
+        }
+        let text = self.display.shown[(self.display.level - links) as usize].text;
+        (text != PROGRAM).then_some(text)
+    }
+
+    /// How many entries lie below those of the text so many links out from the one that runs.
+    #[inline(always)]
+    pub fn start_out(&self, links: u32) -> u32
+        requires { IsSome (start_at self.now.frames (outwards self.now.frames self.now.current links)) }
+        ensures { start_at self.now.frames (outwards self.now.frames self.now.current links) ≡ Some result }
+    {
+        self.display.shown[(self.display.level - links) as usize].start
+    }
+
     /// A text runs: its frame and its mark are the newest. L4 exactly where it counts and the depth is 2,000; otherwise it
-    /// is refused exactly where there is no room, or its link names no text below it.
+    /// is refused exactly where there is no room, or its link names neither the program nor a text under way.
+    #[inline(always)]
     pub fn enter(&mut self, frame: Frame, mark: Entry) -> Result<(), Refusal>
+        ensures answer { result ≡ text_allowed frame self.old }
+        ensures entered { OnOk result (self.new ≡ entered frame mark self.old) }
+        ensures unchanged { OnErr result (self.new ≡ self.old) }
+    {
+        let depth = u32::from(frame.counts);
+        if frame.counts && self.depth >= MOST_DEPTH {
+            return Err(Refusal::Limit(Limit::Depth));
+        }
+        let number = self.answers.len();
+        if number >= self.answers.room()
+            || self.entries.len() >= self.entry_room as usize
+            || frame.link.is_some_and(|link| link >= number)
+        {
+            return Err(Refusal::NoRoom);
+        }
+        self.display.enter(&self.frames, &frame);
+        self.entries.push_reserved(mark);
+        self.frames.push_reserved(frame);
+        self.answers.push(Word::Nothing);
+        self.current = Some(number);
+        self.depth += depth;
+        Ok(())
+    }
+
+    /// The same, where the text round it is so many links out from the one that runs: it is found without a look.
+    #[inline(always)]
+    pub fn enter_within(&mut self, links: u32, frame: Frame, mark: Entry) -> Result<(), Refusal>
+        requires way { outwards self.old.frames self.old.current links ≡ Some frame.link }
+        requires below { (frame.counts && nat_le 2000 self.old.depth) ≡ false → is_below frame.link (length self.old.frames) ≡ true }
         ensures answer { result ≡ text_allowed frame self.old }
         ensures entered { OnOk result (self.new ≡ entered frame mark self.old) }
         ensures unchanged { OnErr result (self.new ≡ self.old) }
@@ -355,9 +445,8 @@ impl Store {
         if number >= self.answers.room() || self.entries.len() >= self.entry_room as usize {
             return Err(Refusal::NoRoom);
         }
-        if !is_below(frame.link, number) {
-            return Err(Refusal::NoRoom);
-        }
+        self.display
+            .enter_within(&self.frames, self.current, links, &frame);
         self.entries.push_reserved(mark);
         self.frames.push_reserved(frame);
         self.answers.push(Word::Nothing);
@@ -366,7 +455,23 @@ impl Store {
         Ok(())
     }
 
+    /// The same, whichever way the text round it is found: by so many links from the one that runs, where that is told.
+    #[inline(always)]
+    pub fn enter_by(&mut self, links: Option<u32>, frame: Frame, mark: Entry) -> Result<(), Refusal>
+        requires way { IfSome links (λ n. outwards self.old.frames self.old.current n ≡ Some frame.link) }
+        requires below { IfSome links (λ n. (frame.counts && nat_le 2000 self.old.depth) ≡ false → is_below frame.link (length self.old.frames) ≡ true) }
+        ensures answer { result ≡ text_allowed frame self.old }
+        ensures entered { OnOk result (self.new ≡ entered frame mark self.old) }
+        ensures unchanged { OnErr result (self.new ≡ self.old) }
+    {
+        match links {
+            Some(links) => self.enter_within(links, frame, mark),
+            None => self.enter(frame, mark),
+        }
+    }
+
     /// Gives back all of the newest text: its frame, its entries and its cells.
+    #[inline(always)]
     pub fn leave(&mut self)
         requires { 0 < length self.old.frames }
         ensures { IfSome (newest self.old) (λ frame. self.new ≡ left frame self.old) }
@@ -375,6 +480,7 @@ impl Store {
         let frame = self.frames[newest as usize];
         self.cells.cut(frame.base);
         self.entries.truncate(frame.start as usize);
+        self.display.leave(&self.frames);
         self.frames.truncate(newest as usize);
         self.answers.cut(newest);
         self.depth = self.depth.saturating_sub(u32::from(frame.counts));
@@ -385,6 +491,7 @@ impl Store {
     pub fn go_on(&mut self, text: Option<u32>)
         ensures { self.new ≡ record self.old { current = text } }
     {
+        self.display.go_on(&self.frames, text);
         self.current = text;
     }
 
@@ -394,8 +501,10 @@ impl Store {
     {
         self.cells.cut(mark.cells);
         self.entries.truncate(kept as usize);
+        self.display.cut(&self.frames, mark.frames);
         self.frames.truncate(mark.frames as usize);
         self.answers.cut(mark.frames);
+        self.display.turn(&self.frames, text);
         self.current = text;
         self.depth = mark.depth;
     }
@@ -429,16 +538,5 @@ impl Store {
         ensures { self.new ≡ record self.old { answers = slice_set self.old.answers at (a_wide held.now) } }
     {
         self.answers.set_wide(at, held);
-    }
-}
-
-/// Whether a link names the program or a text that lies below.
-#[inline(always)]
-fn is_below(link: Option<u32>, number: u32) -> bool
-    ensures { result ≡ below link number }
-{
-    match link {
-        None => true,
-        Some(text) => text < number,
     }
 }

@@ -1,7 +1,7 @@
 -- Calls of procedures.
 use Rattle.std.proofs.Common.{◌≡◌, ℕ, suc, ◌+◌, ◌-◌, ◌<◌, ◌≤◌, List, [], ◌∷◌, ◌++◌, Option, Some, None, true, false, nat_lt, length, map, reverse, refl, sym, ap, ◌∙◌, subst, arith}
 use mathlib.Core.List.{reverse_aux}
-use Rattle.std.specs.Prelude.{Ok, Err}
+use Rattle.std.specs.Prelude.{Ok, Err, Bool, nat_le, ◌&&◌, IfSome}
 use Rattle.std.specs.List.{All}
 use Rattle.std.specs.Option.{option_map}
 use Rattle.std.proofs.lemmas.Bool.Decides.{nat_tests}
@@ -15,7 +15,8 @@ use Rattle.cell_store.specs.declared.entries.Entry.TheVariants as entry
 use Rattle.cell_store.specs.declared.entries.Frame as store_frame
 use Rattle.cell_store.specs.declared.entries.Purpose.TheVariants as purpose
 use Rattle.cell_store.specs.declared.entries.Refusal.TheVariants as refusal
-use Rattle.cell_store.specs.Stores.{Store, entered, text_allowed}
+use Rattle.cell_store.specs.Links.{is_below}
+use Rattle.cell_store.specs.Stores.{Store, entered, has_room, text_allowed}
 use Rattle.program_meaning.specs.State.{by_limit, for_value}
 use Rattle.stack_code.specs.declared.heads.Formal.{Formal}
 use Rattle.stack_code.specs.declared.heads.ProcedureHead.{ProcedureHead}
@@ -207,6 +208,19 @@ module _ (v : Seen) (s : State) (h : Held) (st : Stands v s) (site : Place) (p :
       call_refused s1 pc b k a = cc (no.1, body_room v (ticked s) h st1 site p fs clear1 no.0) where
         no : (nat_lt s.store.depth 2000 ≡ true) × (takes s.store p.link ≡ false)
         no = refused_below s.store (call_frame s.store pc b) refl (subst (λ (z : State). text_allowed (call_frame z.store pc b) z.store ≡ Err refusal.NoRoom) k a)
+
+      not_deep : (d : ℕ) → (true && nat_le 2000 d) ≡ false → nat_lt d 2000 ≡ true
+      not_deep d e = grind (arith, nat_tests)
+
+      second : (a b : Bool) → (a && b) ≡ true → b ≡ true
+      second true b e = e
+      second false b e = absurd (cc e)
+
+      -- its link names the program or a text that lies below, unless the depth stops it
+      pub call_below : (s1 : State) (links : Option ℕ) → s1 ≡ ticked s → IfSome links (λ n. (true && nat_le 2000 s1.store.depth) ≡ false → is_below p.link (length s1.store.frames) ≡ true)
+      call_below s1 None k = tt
+      call_below s1 (Some n) k = subst (λ (z : State). (true && nat_le 2000 z.store.depth) ≡ false → is_below p.link (length z.store.frames) ≡ true) (sym k)
+          (λ e. second (has_room s.store) (is_below p.link (length s.store.frames)) (body_room v (ticked s) h st1 site p fs clear1 (not_deep s.store.depth e)))
 
       module _ (s1 : State) (pc b : ℕ) (k : s1 ≡ ticked s) (a : text_allowed (call_frame s1.store pc b) s1.store ≡ Ok tt) where
         deep : nat_lt s.store.depth 2000 ≡ true

@@ -349,7 +349,7 @@ pub fn call_through(
     ensures { Goes seen state.new held result (row_of seen 0 (instr.CallThrough site call) (machine_of seen state.old held)) }
 {
     let procedure = procedure_out(&state.store, given.code.call(call).source);
-    call_procedure(state, given, site, procedure, pc, held)
+    call_procedure(state, given, site, None, procedure, pc, held)
 }
 
 /// The place of an actual, where its formal is assigned back; otherwise what would do so is stepped over.

@@ -5,7 +5,6 @@ ghost use Rattle.machine_rows.specs.Contents.{thunk_in};
 ghost use Rattle.machine_rows.specs.Names as named;
 
 use cell_store::{Closed, Entry, Purpose, Store, Wide, Word};
-use name_thunks::text_out;
 use stack_code::Mode;
 
 /// How many entries lie below those of the text so many links out.
@@ -14,15 +13,7 @@ pub fn start_out(store: &Store, links: u16) -> u32
     requires { IsSome (named.start_out store.now links) }
     ensures { named.start_out store.now links ≡ Some result }
 {
-    let text = if links == 0 {
-        store.current()
-    } else {
-        text_out(store, u32::from(links))
-    };
-    let Some(number) = text else {
-        return 0;
-    };
-    store.frame(number).start
+    store.start_out(u32::from(links))
 }
 
 /// The entry at a position of the text so many links out.

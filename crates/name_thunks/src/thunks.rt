@@ -5,7 +5,8 @@ ghost use Rattle.name_thunks.specs.Thunks.{thunk_frame, thunk_entered, thunk_lef
 use cell_store::{Closed, Entry, Frame, Purpose, Refusal, Store};
 
 /// Enters a copied actual, which returns to an instruction: it goes on in the frames that its link names. L4 exactly at
-/// depth 2,000; otherwise it is refused exactly where there is no room.
+/// depth 2,000; otherwise it is refused exactly where there is no room, or its link names neither the program nor a text
+/// under way.
 pub fn enter_thunk(
     store: &mut Store,
     closed: &Closed,
@@ -39,6 +40,6 @@ pub fn leave_thunk(store: &mut Store)
         return;
     };
     let text = frame.text;
-    store.leave();
     store.go_on(text);
+    store.leave();
 }
