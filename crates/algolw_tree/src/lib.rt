@@ -4,6 +4,7 @@
 mod phrases;
 mod programs;
 mod spelling;
+mod standard;
 mod tokens;
 mod words;
 
@@ -18,5 +19,6 @@ pub use programs::{
     TypedPart, TypedProc,
 };
 pub use spelling::{ShortName, Spelling};
+pub use standard::{Basic, STANDARD, Standard, UnaryOp};
 pub use tokens::{Literal, Symbol, Token, TokenKind, Word};
 pub use words::WORDS;

@@ -2,9 +2,14 @@
 use Rattle.std.proofs.Common.{ℕ, List, [], ◌∷◌, Option, Some, None, Bool, true, nat_eq, nat_le, length}
 use Rattle.std.specs.Prelude.{⊤}
 use Rattle.value_ops.specs.declared.places.Place.{Place}
-use Rattle.algolw_typing.specs.Types.{ValueType, Gives, Statement, Simple, Integer, Logical, Bits, Str, Reference, fits, is_bits}
+use Rattle.algolw_tree.specs.declared.standard.Basic.{Basic}
+use Rattle.algolw_tree.specs.declared.standard.Basic.TheVariants as basic
+use Rattle.algolw_tree.specs.declared.standard.Standard.{Standard}
+use Rattle.algolw_tree.specs.declared.standard.Standard.TheVariants as standard
+use Rattle.algolw_tree.specs.Standards as standards
+use Rattle.algolw_typing.specs.Types.{ValueType, Gives, Statement, Simple, Str, Reference, fits}
 use Rattle.algolw_typing.specs.Verdicts.{Verdict, Good, unless, value, int}
-use Rattle.algolw_typing.specs.Meanings.{Meaning, a_variable, an_array, a_procedure, a_procedure_formal, a_class, a_field, a_label, a_control, a_standard, Standard, Odd, BitString, Number, Code, Decode, Read, ReadOn, ReadCard, Write, WriteOn, IoControl, MaxInteger, FormalType, by_name, by_value, by_result, by_value_result, for_array, for_procedure, alone_row, procedure_alone, standard_alone, no_base, procedure_as_base, standard_as_base, base_row, part_of_string, part_row, Part, a_star, a_phrase, as_array, as_procedure, typeless, all_read, no_star, right_number, of_phrase, ints_read, field_values, values_read, variables_read, no_references, card_strings, one_part, field_of, array_row, class_row, field_row, integer_function, integer_of, is_character, read_row, read_card_row, write_row, standard_row}
+use Rattle.algolw_typing.specs.Meanings.{Meaning, a_variable, an_array, a_procedure, a_procedure_formal, a_class, a_field, a_label, a_control, a_standard, FormalType, by_name, by_value, by_result, by_value_result, for_array, for_procedure, alone_row, procedure_alone, standard_alone, no_base, procedure_as_base, standard_as_base, base_row, part_of_string, part_row, Part, a_star, a_phrase, as_array, as_procedure, typeless, all_read, no_star, right_number, of_phrase, ints_read, field_values, values_read, variables_read, no_references, card_strings, one_part, field_of, array_row, class_row, field_row, basic_type, is_basic, one_value_row, read_row, read_card_row, write_row, standard_row}
 use Rattle.algolw_typing.specs.Actuals.{Reading, as_phrases, value_actual, result_actual, value_result_actual, array_actual, statement_actual, function_actual, procedure_actual, table_a, actuals_fit, list_row, subscripts, subarray_row}
 use Rattle.algolw_typing.proofs.Decided.{Decided, good_is, fault_is, IsTyped, has_type, unless_decided, value_decided, decisions}
 
@@ -111,7 +116,7 @@ procedure_alone_decided p result [] = good_is
 procedure_alone_decided p result (f ∷ formals) = fault_is
 
 standard_alone_decided : (p : Place) (s : Standard) → Decided (standard_alone p s)
-standard_alone_decided p MaxInteger = good_is
+standard_alone_decided p standard.MaxInteger = good_is
 standard_alone_decided p s = fault_is
 
 pub alone_decided : (p : Place) (m : Meaning) (d : Place) → Decided (alone_row p m d)
@@ -134,7 +139,7 @@ procedure_as_base_decided p (Some t) (f ∷ formals) start h = no_base_decided p
 procedure_as_base_decided p None formals start h = no_base_decided p start h
 
 standard_as_base_decided : (p : Place) (s : Standard) (start : Option Gives) → IsTyped start → Decided (standard_as_base p s start)
-standard_as_base_decided p MaxInteger start h = good_is
+standard_as_base_decided p standard.MaxInteger start h = good_is
 standard_as_base_decided p s start h = no_base_decided p start h
 
 pub base_decided : (p : Place) (m : Meaning) (start : Option Gives) → IsTyped start → Decided (base_row p m start)
@@ -217,11 +222,8 @@ field_of_decided : (p c : Place) (t u : ValueType) → Decided (field_of p c t u
 field_of_decided p c t (Reference s) = search decisions
 field_of_decided p c t u = fault_is
 
-function_decided : (p : Place) (parts : List Part) (g : Gives) → ArePlain parts → Decided (integer_function p parts g)
-function_decided p parts g h = no_star_decided p parts _ h (λ more. one_part_decided p parts (λ k. int p k (Good g)) more (λ k. search decisions))
-
-integer_of_decided : (p : Place) (is_wanted : ValueType → Bool) (parts : List Part) → ArePlain parts → Decided (integer_of p is_wanted parts)
-integer_of_decided p is_wanted parts h = no_star_decided p parts _ h (λ more. one_part_decided p parts (λ g. value p g (λ t. unless (is_wanted t) 37 p (Good (Simple Integer)))) more (λ g. search decisions))
+one_value_decided : (p : Place) (taken : Basic) (parts : List Part) (g : Gives) → ArePlain parts → Decided (one_value_row p taken parts g)
+one_value_decided p taken parts g h = no_star_decided p parts _ h (λ more. one_part_decided p parts (λ k. value p k (λ t. unless (is_basic taken t) 37 p (Good g))) more (λ k. search decisions))
 
 read_decided : (p : Place) (parts : List Part) → ArePlain parts → Decided (read_row p parts)
 read_decided p parts h = star_decided p parts _ (variables_read_decided p parts (λ ts. no_references p ts (Good Statement)) (λ ts. no_references_decided p ts (Good Statement) good_is))
@@ -233,18 +235,12 @@ write_decided : (p : Place) (parts : List Part) → ArePlain parts → Decided (
 write_decided p parts h = no_star_decided p parts _ h (λ more. values_read_decided p parts (λ ts. no_references p ts (Good Statement)) more (λ ts. no_references_decided p ts (Good Statement) good_is))
 
 standard_decided : (p : Place) (s : Standard) (parts : List Part) → ArePlain parts → Decided (standard_row p s parts)
-standard_decided p Odd parts h = function_decided p parts (Simple Logical) h
-standard_decided p BitString parts h = function_decided p parts (Simple Bits) h
-standard_decided p Number parts h = integer_of_decided p is_bits parts h
-standard_decided p Code parts h = function_decided p parts (Simple (Str 1)) h
-standard_decided p Decode parts h = integer_of_decided p is_character parts h
-standard_decided p Read parts h = read_decided p parts h
-standard_decided p ReadOn parts h = read_decided p parts h
-standard_decided p ReadCard parts h = read_card_decided p parts h
-standard_decided p Write parts h = write_decided p parts h
-standard_decided p WriteOn parts h = write_decided p parts h
-standard_decided p IoControl parts h = function_decided p parts Statement h
-standard_decided p MaxInteger parts h = fault_is
+standard_decided p (standard.Function op) parts h = one_value_decided p (standards.takes op) parts (Simple (basic_type (standards.gives op))) h
+standard_decided p (standard.Read next) parts h = read_decided p parts h
+standard_decided p standard.ReadCard parts h = read_card_decided p parts h
+standard_decided p (standard.Write first) parts h = write_decided p parts h
+standard_decided p standard.IoControl parts h = one_value_decided p basic.Integer parts Statement h
+standard_decided p standard.MaxInteger parts h = fault_is
 
 array_decided : (p : Place) (t : ValueType) (n : ℕ) (parts : List Part) → ArePlain parts → Decided (array_row p t n parts)
 array_decided p t n parts h = no_star_decided p parts _ h (λ more. so_many_decided p n parts _ (ints_read_decided p parts (Good (Simple t)) more good_is))

@@ -1,15 +1,16 @@
 -- Where declarations have no faults, each of their names means something, and the list behind it is read as its meaning wants.
-use Rattle.std.proofs.Common.{◌≡◌, refl, ℕ, List, [], ◌∷◌, ◌++◌, Option, Some, None, Bool, true, false}
+use Rattle.std.proofs.Common.{◌≡◌, refl, ℕ, suc, List, [], ◌∷◌, ◌++◌, Option, Some, None, Bool, true, false}
 use Rattle.std.specs.Prelude.{⊤}
 use Rattle.std.specs.Str.{bytes_eq}
 use Rattle.value_ops.specs.declared.places.Place.{Place}
 use Rattle.value_ops.specs.declared.places.Diagnostic.{Diagnostic}
 use Rattle.algolw_tree.specs.Tree.{Placed, TypeSpec, Formal, ClassDecl, Items, no_items, item_and, Labelled}
 use Rattle.algolw_tree.specs.Tree as tree
+use Rattle.algolw_tree.specs.Standards.{StandardNames, standard_table}
 use Rattle.algolw_typing.specs.Names.{Entry, Scope, declared, in_scope, or_else}
 use Rattle.algolw_typing.specs.Meanings.{Meaning, a_class, a_field, a_label, FormalType, by_name, by_value, by_result, by_value_result, for_array, for_procedure}
 use Rattle.algolw_typing.specs.Actuals.{Reading, as_phrases}
-use Rattle.algolw_typing.specs.Scopes.{Known, Scopes, known, class_entry, entries, class_fault, class_faults, spec_faults, spec_type, result_faults, result_type, good, formal_fault, formal_faults, formal_type, formal_meaning, formal_reading, formal_entries, formal_scope, group_faults, field_entries, field_types, class_entries, group_names, label_entries, without_twice, control_scope, standard_scope}
+use Rattle.algolw_typing.specs.Scopes.{Known, Scopes, known, class_entry, entries, class_fault, class_faults, spec_faults, spec_type, result_faults, result_type, good, formal_fault, formal_faults, formal_type, formal_meaning, formal_reading, formal_entries, formal_scope, group_faults, field_entries, field_types, class_entries, group_names, label_entries, without_twice, control_scope, standard_entries, standard_scope}
 use Rattle.algolw_typing.proofs.DecidedNames.{Agrees}
 
 -- ---- no faults
@@ -130,8 +131,12 @@ good_class path c h = (good_means (group_faults path c.groups) (a_class (field_t
 pub good_control : (p : Place) (x : List ℕ) → GoodScope (control_scope p x)
 good_control p x = (tt, tt)
 
+good_standards : (n : ℕ) (names : StandardNames) → GoodScope (standard_entries n names)
+good_standards n [] = tt
+good_standards n (x ∷ names) = (tt, good_standards (suc n) names)
+
 pub good_standard : GoodPath (standard_scope ∷ [])
-good_standard = ((tt, (tt, (tt, (tt, (tt, (tt, (tt, (tt, (tt, (tt, (tt, (tt, tt)))))))))))), tt)
+good_standard = (good_standards 1 standard_table, tt)
 
 -- ---- Scopes that declare the same names, and the same classes among them, give the same faults of types.
 

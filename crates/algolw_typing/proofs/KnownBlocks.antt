@@ -1,17 +1,19 @@
 -- What a block, a formal list, a FOR and the block round the program declare is known, and so is what their declarations state.
 use Rattle.std.proofs.Common.{◌≡◌, refl, ap, ◌∙◌, List, [], ◌∷◌, ◌++◌, Option, Some, None, true}
-use Rattle.std.specs.Prelude.{ℕ}
+use Rattle.std.specs.Prelude.{ℕ, suc}
 use Rattle.value_ops.specs.declared.places.Place.{Place}
 use Rattle.value_ops.specs.declared.places.Diagnostic.{Diagnostic}
 use Rattle.algolw_tree.specs.declared.phrases.Mode.{Mode}
 use Rattle.algolw_tree.specs.declared.phrases.Mode.TheVariants as mode
 use Rattle.algolw_tree.specs.Tree.{Placed, TypeSpec, Formal, ClassDecl, Items, no_items, item_and, Labelled, Decls, no_decls, decl_and, Decl}
 use Rattle.algolw_tree.specs.Tree as tree
-use Rattle.algolw_typing.specs.Names.{Scope}
+use Rattle.algolw_tree.specs.declared.standard.Standard.{Standard}
+use Rattle.algolw_tree.specs.Standards.{StandardNames, standard_table}
+use Rattle.algolw_typing.specs.Names.{Entry, Scope}
 use Rattle.algolw_typing.specs.Types.{ValueType, has}
 use Rattle.algolw_typing.specs.Meanings.{Meaning, a_variable, an_array, a_procedure, a_class, a_field, a_label}
 use Rattle.algolw_typing.specs.Actuals.{Reading}
-use Rattle.algolw_typing.specs.Scopes.{Known, Scopes, entries, spec_faults, spec_type, result_faults, result_type, dimension_fault, good, formal_fault, formal_faults, formal_type, formal_types, formal_meaning, formal_reading, formal_entries, formal_scope, group_faults, field_types, field_entries, group_names, names_of_decl, names_of_decls, names_of_block, label_entries, without_twice, bound_count, control_scope, standard_scope}
+use Rattle.algolw_typing.specs.Scopes.{Known, Scopes, entries, spec_faults, spec_type, result_faults, result_type, dimension_fault, good, formal_fault, formal_faults, formal_type, formal_types, formal_meaning, formal_reading, formal_entries, formal_scope, group_faults, field_types, field_entries, group_names, names_of_decl, names_of_decls, names_of_block, label_entries, without_twice, bound_count, control_scope, standard_entry, standard_entries, standard_scope}
 use Rattle.algolw_typing.specs.Naming.{Frame, NamePath, scope_of, placed_of, decl_names, decls_names, label_names, block_names, formal_names, standard_names, decl_naming, decls_naming}
 use Rattle.algolw_typing.specs.Typing.{array_faults, typed_bounds, meanings, meanings_of}
 use Rattle.algolw_typing.specs.Known.{KnowsResult}
@@ -198,5 +200,10 @@ around_formals {classes = classes} {path = path} fs h w = around_scope (formal_n
 pub around_control : {names classes : List Place} {outer : NamePath} {path : Scopes} (p : Place) (x : List ℕ) → has names p ≡ true → Around names classes outer path → Around names classes (scope_of ((x, p) ∷ []) ∷ outer) (control_scope p x ∷ path)
 around_control p x h w = around_scope ((x, p) ∷ []) (control_scope p x) refl (h, tt) (tt, tt) (tt, tt) w
 
+all_standard : (P : Entry Known → Type 0) → ((x : List ℕ) (n : ℕ) (s : Standard) → P (standard_entry x n s)) → (n : ℕ) (names : StandardNames) → AllEntries P (standard_entries n names)
+all_standard P each n [] = tt
+all_standard P each n (x ∷ names) = (each x.0 n x.1, all_standard P each (suc n) names)
+
 pub around_standard : {names classes : List Place} → PlacesHad names standard_names → Around names classes (scope_of standard_names ∷ []) (standard_scope ∷ [])
-around_standard h = around_scope standard_names standard_scope refl h (tt, (tt, (tt, (tt, (tt, (tt, (tt, (tt, (tt, (tt, (tt, (tt, tt)))))))))))) (tt, (tt, (tt, (tt, (tt, (tt, (tt, (tt, (tt, (tt, (tt, (tt, tt)))))))))))) around_none
+around_standard {classes = classes} h =
+    around_scope standard_names standard_scope refl h (all_standard (ClassKnown classes) (λ x n s. tt) 1 standard_table) (all_standard (MeansKnown classes) (λ x n s. tt) 1 standard_table) around_none

@@ -2,10 +2,15 @@
 use Rattle.std.proofs.Common.{◌≡◌, ℕ, ℤ, List, [], ◌∷◌, Option, Some, None, Bool, true}
 use Rattle.std.specs.Prelude.{⊤}
 use Rattle.value_ops.specs.declared.places.Place.{Place}
+use Rattle.algolw_tree.specs.declared.standard.Basic.{Basic}
+use Rattle.algolw_tree.specs.declared.standard.Basic.TheVariants as basic
+use Rattle.algolw_tree.specs.declared.standard.Standard.{Standard}
+use Rattle.algolw_tree.specs.declared.standard.Standard.TheVariants as standard
+use Rattle.algolw_tree.specs.Standards as standards
 use Rattle.algolw_typing.specs.Names.{Entry}
 use Rattle.algolw_typing.specs.Types.{ValueType, Gives, Statement, Simple, Str, Reference, has}
 use Rattle.algolw_typing.specs.Verdicts.{Verdict, Good, Fault, part, value}
-use Rattle.algolw_typing.specs.Meanings.{Meaning, a_variable, an_array, a_procedure, a_procedure_formal, a_class, a_field, a_label, a_control, a_standard, Standard, Odd, BitString, Number, Code, Decode, Read, ReadOn, ReadCard, Write, WriteOn, IoControl, MaxInteger, FormalType, by_name, by_value, by_result, by_value_result, for_array, for_procedure, gives_of, standard_alone, procedure_alone, alone_row, part_of_string, part_row, Part, a_star, a_phrase, as_array, as_procedure, typeless, all_read, no_star, of_phrase, ints_read, field_values, values_read, variables_read, no_references, card_strings, field_of, one_part, standard_row}
+use Rattle.algolw_typing.specs.Meanings.{Meaning, a_variable, an_array, a_procedure, a_procedure_formal, a_class, a_field, a_label, a_control, a_standard, FormalType, by_name, by_value, by_result, by_value_result, for_array, for_procedure, gives_of, basic_type, standard_alone, procedure_alone, alone_row, part_of_string, part_row, Part, a_star, a_phrase, as_array, as_procedure, typeless, all_read, no_star, of_phrase, ints_read, field_values, values_read, variables_read, no_references, card_strings, field_of, one_part, standard_row}
 use Rattle.algolw_typing.specs.Actuals.{Reading, value_actual, result_actual, value_result_actual, array_actual, statement_actual, function_actual, procedure_actual, table_a, actuals_fit, list_row}
 use Rattle.algolw_typing.specs.Scopes.{Known, written}
 use Rattle.algolw_typing.specs.Typing.{Out, gives, use_of, use_alone, use_with_list, part_verdict, list_verdict}
@@ -46,7 +51,7 @@ procedure_alone_told p result [] h = result_gives result h
 procedure_alone_told p result (f ∷ formals) h = a_fault
 
 standard_alone_told : {classes : List Place} (p : Place) (s : Standard) → Tells classes (standard_alone p s)
-standard_alone_told p MaxInteger = an_integer
+standard_alone_told p standard.MaxInteger = an_integer
 standard_alone_told p s = a_fault
 
 alone_told : {classes : List Place} (p : Place) (m : Meaning) (d : Place) → KnowsMeaning classes d m → Tells classes (alone_row p m d)
@@ -173,19 +178,19 @@ actuals_told p (f ∷ fs) (part ∷ parts) v h = table_told p f part (actuals_fi
 
 -- ---- a name with a list
 
+basic_known : (classes : List Place) (b : Basic) → KnowsType classes (basic_type b)
+basic_known classes basic.Integer = tt
+basic_known classes basic.Logical = tt
+basic_known classes basic.Bits = tt
+basic_known classes basic.Character = tt
+
 standard_told : {classes : List Place} (p : Place) (s : Standard) (parts : List Part) → Tells classes (standard_row p s parts)
-standard_told p Odd parts = search listed_tellings
-standard_told p BitString parts = search listed_tellings
-standard_told p Number parts = search listed_tellings
-standard_told p Code parts = search listed_tellings
-standard_told p Decode parts = search listed_tellings
-standard_told p Read parts = search listed_tellings
-standard_told p ReadOn parts = search listed_tellings
-standard_told p ReadCard parts = search listed_tellings
-standard_told p Write parts = search listed_tellings
-standard_told p WriteOn parts = search listed_tellings
-standard_told p IoControl parts = search listed_tellings
-standard_told p MaxInteger parts = a_fault
+standard_told {classes = classes} p (standard.Function op) parts = let one : Tells classes (Good (Simple (basic_type (standards.gives op)))) = a_type (basic_known classes (standards.gives op)) in search listed_tellings
+standard_told p (standard.Read next) parts = search listed_tellings
+standard_told p standard.ReadCard parts = search listed_tellings
+standard_told p (standard.Write first) parts = search listed_tellings
+standard_told p standard.IoControl parts = search listed_tellings
+standard_told p standard.MaxInteger parts = a_fault
 
 field_of_told : {classes : List Place} (p c : Place) (t u : ValueType) → KnowsType classes t → Tells classes (field_of p c t u)
 field_of_told p c t (Reference s) h = unless_told (has s c) 37 p (Good (Simple t)) (a_type h)

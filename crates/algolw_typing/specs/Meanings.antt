@@ -1,23 +1,13 @@
 -- What names mean, and the rows of the table for names and the lists behind them.
 use Rattle.std.specs.Prelude.{ℕ, List, [], ◌∷◌, Option, Some, None, Bool, true, false, ◌&&◌, nat_eq, nat_le, length}
 use Rattle.value_ops.specs.declared.places.Place.{Place}
-use Rattle.algolw_typing.specs.Types.{ValueType, Gives, Statement, Simple, Integer, Logical, Bits, Str, Reference, fits, has, is_bits}
+use Rattle.algolw_tree.specs.declared.standard.Basic.{Basic}
+use Rattle.algolw_tree.specs.declared.standard.Basic.TheVariants as basic
+use Rattle.algolw_tree.specs.declared.standard.Standard.{Standard}
+use Rattle.algolw_tree.specs.declared.standard.Standard.TheVariants as standard
+use Rattle.algolw_tree.specs.Standards as standards
+use Rattle.algolw_typing.specs.Types.{ValueType, Gives, Statement, Simple, Integer, Logical, Bits, Str, Reference, fits, has, is_integer, is_logical, is_bits}
 use Rattle.algolw_typing.specs.Verdicts.{Verdict, Good, Fault, Silent, part, unless, value, int}
-
--- the names that are declared in a block round the program
-pub data Standard : Type 0 where
-  Odd : Standard
-  BitString : Standard
-  Number : Standard
-  Code : Standard
-  Decode : Standard
-  Read : Standard
-  ReadOn : Standard
-  ReadCard : Standard
-  Write : Standard
-  WriteOn : Standard
-  IoControl : Standard
-  MaxInteger : Standard
 
 -- a formal as calls see it
 pub data FormalType : Type 0 where
@@ -49,7 +39,7 @@ gives_of (Some t) = Simple t
 
 -- its type; a procedure with formals, a standard procedure or function 39
 abbrev pub standard_alone : Place → Standard → Verdict
-standard_alone p MaxInteger = Good (Simple Integer)
+standard_alone p standard.MaxInteger = Good (Simple Integer)
 standard_alone p s = Fault 39 p
 
 abbrev pub procedure_alone : Place → Option ValueType → List FormalType → Verdict
@@ -81,7 +71,7 @@ procedure_as_base p (Some t) [] start = Good (Simple t)
 procedure_as_base p result formals start = no_base p start
 
 abbrev pub standard_as_base : Place → Standard → Option Gives → Verdict
-standard_as_base p MaxInteger start = Good (Simple Integer)
+standard_as_base p standard.MaxInteger start = Good (Simple Integer)
 standard_as_base p s start = no_base p start
 
 -- the base of a substring list that follows a name directly, at the name: 41 on an array, a procedure with formals or without type, a
@@ -212,28 +202,32 @@ read_row p parts = no_star p parts (variables_read p parts (λ ts. no_references
 abbrev pub read_card_row : Place → List Part → Verdict
 read_card_row p parts = no_star p parts (variables_read p parts (λ ts. card_strings p ts (Good Statement)))
 
--- IOCONTROL, ODD, BITSTRING, CODE, at the name: 40; 39 unless one part; Int
-abbrev pub integer_function : Place → List Part → Gives → Verdict
-integer_function p parts g = no_star p parts (one_part p parts (λ h. int p h (Good g)))
+-- the type of the values that an operation takes or gives
+abbrev pub basic_type : Basic → ValueType
+basic_type basic.Integer = Integer
+basic_type basic.Logical = Logical
+basic_type basic.Bits = Bits
+basic_type basic.Character = Str 1
 
 abbrev pub is_character : ValueType → Bool
 is_character (Str n) = nat_eq n 1
 is_character t = false
 
--- NUMBER, DECODE, at the name: 40; 39 unless one part; 35; 37 unless BITS for NUMBER and STRING(1) for DECODE
-abbrev pub integer_of : Place → (ValueType → Bool) → List Part → Verdict
-integer_of p is_wanted parts = no_star p parts (one_part p parts (λ g. value p g (λ t. unless (is_wanted t) 37 p (Good (Simple Integer)))))
+-- whether a type is this one
+abbrev pub is_basic : Basic → ValueType → Bool
+is_basic basic.Integer t = is_integer t
+is_basic basic.Logical t = is_logical t
+is_basic basic.Bits t = is_bits t
+is_basic basic.Character t = is_character t
+
+-- a function, IOCONTROL, at the name: 40 a `*`; 39 unless one part; 35; 37 unless a value of the type that it takes
+abbrev pub one_value_row : Place → Basic → List Part → Gives → Verdict
+one_value_row p taken parts g = no_star p parts (one_part p parts (λ h. value p h (λ t. unless (is_basic taken t) 37 p (Good g))))
 
 abbrev pub standard_row : Place → Standard → List Part → Verdict
-standard_row p Odd parts = integer_function p parts (Simple Logical)
-standard_row p BitString parts = integer_function p parts (Simple Bits)
-standard_row p Number parts = integer_of p is_bits parts
-standard_row p Code parts = integer_function p parts (Simple (Str 1))
-standard_row p Decode parts = integer_of p is_character parts
-standard_row p Read parts = read_row p parts
-standard_row p ReadOn parts = read_row p parts
-standard_row p ReadCard parts = read_card_row p parts
-standard_row p Write parts = write_row p parts
-standard_row p WriteOn parts = write_row p parts
-standard_row p IoControl parts = integer_function p parts Statement
-standard_row p MaxInteger parts = Fault 41 p
+standard_row p (standard.Function op) parts = one_value_row p (standards.takes op) parts (Simple (basic_type (standards.gives op)))
+standard_row p (standard.Read next) parts = read_row p parts
+standard_row p standard.ReadCard parts = read_card_row p parts
+standard_row p (standard.Write first) parts = write_row p parts
+standard_row p standard.IoControl parts = one_value_row p basic.Integer parts Statement
+standard_row p standard.MaxInteger parts = Fault 41 p

@@ -1,16 +1,18 @@
 -- What declarations declare.
-use Rattle.std.specs.Prelude.{ℕ, ℤ, pos, negsuc, suc, List, [], ◌∷◌, ◌++◌, Option, Some, None, Bool, true, false, ◌&&◌, nat_le, nat_eq, codes}
+use Rattle.std.specs.Prelude.{ℕ, ℤ, pos, negsuc, suc, List, [], ◌∷◌, ◌++◌, Option, Some, None, Bool, true, false, ◌&&◌, nat_le, nat_eq}
 use Rattle.value_ops.specs.declared.places.Place.{Place}
 use Rattle.value_ops.specs.declared.places.Diagnostic.{Diagnostic}
 use Rattle.algolw_tree.specs.declared.phrases.Mode.{Mode}
 use Rattle.algolw_tree.specs.declared.phrases.Mode.TheVariants as mode
+use Rattle.algolw_tree.specs.declared.standard.Standard.{Standard}
+use Rattle.algolw_tree.specs.Standards.{StandardNames, standard_table}
 use Rattle.algolw_tree.specs.Tree.{Placed, TypeSpec, Formal, ClassDecl, Items, no_items, item_and, Labelled, Decls, no_decls, decl_and, Bounds, no_bounds, bound_and}
 use Rattle.algolw_tree.specs.Tree as tree
 use Rattle.algolw_typing.specs.Names.{Entry, Scope, Path, declared, in_scope}
 use Rattle.algolw_typing.specs.Types.{ValueType, Integer, Logical, Bits, Str, Reference, with_class}
 use Rattle.algolw_typing.specs.Verdicts.{diagnostic}
 use Rattle.algolw_typing.specs.Actuals.{Reading, as_phrases, for_formals, at_run_time}
-use Rattle.algolw_typing.specs.Meanings.{Meaning, a_variable, an_array, a_procedure_formal, a_class, a_field, a_label, a_control, a_standard, FormalType, by_name, by_value, by_result, by_value_result, for_array, for_procedure, Standard, Odd, BitString, Number, Code, Decode, Read, ReadOn, ReadCard, Write, WriteOn, IoControl, MaxInteger}
+use Rattle.algolw_typing.specs.Meanings.{Meaning, a_variable, an_array, a_procedure_formal, a_class, a_field, a_label, a_control, a_standard, FormalType, by_name, by_value, by_result, by_value_result, for_array, for_procedure}
 
 -- what is known of a name: whether it is a class, how the parts of a list behind it are read, and what it means, where its declaration is good
 pub record Known : Type 0 where
@@ -230,18 +232,10 @@ control_scope p x = entry (x, p) (Some a_control) ∷ []
 abbrev pub standard_entry : List ℕ → ℕ → Standard → Entry Known
 standard_entry x n s = entry (x, record { card = 0; column = n }) (Some (a_standard s))
 
+-- names that stand on no card, the first of them in this column
+abbrev pub standard_entries : ℕ → StandardNames → Scope Known
+standard_entries n [] = []
+standard_entries n (x ∷ names) = standard_entry x.0 n x.1 ∷ standard_entries (suc n) names
+
 abbrev pub standard_scope : Scope Known
-standard_scope =
-    standard_entry (codes "ODD") 1 Odd
-    ∷ standard_entry (codes "BITSTRING") 2 BitString
-    ∷ standard_entry (codes "NUMBER") 3 Number
-    ∷ standard_entry (codes "CODE") 4 Code
-    ∷ standard_entry (codes "DECODE") 5 Decode
-    ∷ standard_entry (codes "READ") 6 Read
-    ∷ standard_entry (codes "READON") 7 ReadOn
-    ∷ standard_entry (codes "READCARD") 8 ReadCard
-    ∷ standard_entry (codes "WRITE") 9 Write
-    ∷ standard_entry (codes "WRITEON") 10 WriteOn
-    ∷ standard_entry (codes "IOCONTROL") 11 IoControl
-    ∷ standard_entry (codes "MAXINTEGER") 12 MaxInteger
-    ∷ []
+standard_scope = standard_entries 1 standard_table

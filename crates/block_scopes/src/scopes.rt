@@ -7,9 +7,9 @@ use crate::frame::Frame;
 use crate::order::{sort_classes, sort_names};
 use crate::resolver::Resolver;
 use crate::standard::add_standard;
-use algolw_tree::{NameInfo, Phrase};
+use algolw_tree::{NameInfo, Phrase, STANDARD};
 use bumpalo::Bump;
-use name_scopes::{STANDARD_NAMES, ScopePath};
+use name_scopes::ScopePath;
 use std::alloc::{AllocError, Global};
 
 /// The names and record classes of a program.
@@ -33,7 +33,7 @@ pub fn resolve<'a>(
     add_standard(&mut resolver.names)?;
     let frame = Frame {
         level: 0,
-        slot: STANDARD_NAMES.len() as u32,
+        slot: STANDARD.len() as u32,
     };
     resolver.phrase(frame, &ScopePath::standard(), phrase)?;
     let Resolver {

@@ -1,10 +1,10 @@
 ghost use Rattle.std.specs.Prelude.{◌≡◌, ◌++◌, ◌<◌, OnOk, IsTrue, length};
+ghost use Rattle.algolw_tree.specs.Standards.{spelled};
 ghost use Rattle.algolw_typing.specs.Naming.{infos, outermost, standard_names};
 ghost use Rattle.block_scopes.specs.Standards.{all_short};
 ghost use Rattle.name_scopes.specs.Standards.{on_no_card};
 
-use algolw_tree::NameInfo;
-use name_scopes::STANDARD_NAMES;
+use algolw_tree::{NameInfo, STANDARD, Standard};
 use std::alloc::AllocError;
 use value_ops::{Name, Place};
 
@@ -12,17 +12,17 @@ use value_ops::{Name, Place};
 pub fn add_standard(found: &mut Vec<NameInfo>) -> Result<(), AllocError>
     ensures { OnOk result (found.new.items ≡ found.old.items ++ infos outermost standard_names) }
 {
-    found.reserve(2 * STANDARD_NAMES.len())?;
-    add_on_no_card(found, &STANDARD_NAMES)
+    found.reserve(2 * STANDARD.len())?;
+    add_on_no_card(found, &STANDARD)
 }
 
 /// Notes names that stand on card 0, each in the column of its number, and in no procedure.
-fn add_on_no_card(found: &mut Vec<NameInfo>, names: &[&[u8]]) -> Result<(), AllocError>
+fn add_on_no_card(found: &mut Vec<NameInfo>, names: &[(&[u8], Standard)]) -> Result<(), AllocError>
     requires few { length names.now < 255 }
     requires short { IsTrue (all_short names.now) }
-    ensures { OnOk result (found.new.items ≡ found.old.items ++ infos outermost (on_no_card 1 names.now)) }
+    ensures { OnOk result (found.new.items ≡ found.old.items ++ infos outermost (on_no_card 1 (spelled names.now))) }
 {
-    for (position, name) in names.iter().enumerate() {
+    for (position, (name, _)) in names.iter().enumerate() {
         let place = Place {
             card: 0,
             column: position as u8 + 1,

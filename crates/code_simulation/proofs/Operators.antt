@@ -4,7 +4,8 @@ use Rattle.value_ops.specs.declared.places.Place.{Place}
 use Rattle.value_ops.specs.declared.values.Value.{Value}
 use Rattle.algolw_tree.specs.declared.phrases.Op.{Op}
 use Rattle.algolw_tree.specs.declared.phrases.RelOp.{RelOp}
-use Rattle.program_meaning.specs.Phrases.{Phrase, Empty, Constant, Unary, Binary, Relation, UnaryOp}
+use Rattle.algolw_tree.specs.declared.standard.UnaryOp.{UnaryOp}
+use Rattle.program_meaning.specs.Phrases.{Phrase, Empty, Constant, Unary, Binary, Relation}
 use Rattle.program_meaning.specs.Operations.{Answer, unary, binary, relation}
 use Rattle.program_meaning.specs.State as state
 use Rattle.program_meaning.specs.State.{State, Setting, Outcome, on, jump, stop, M, Use, for_value, for_place, after, holding, value_of, answer_at, only_value}

@@ -5,13 +5,15 @@ use Rattle.value_ops.specs.declared.places.Place.{Place}
 use Rattle.value_ops.specs.declared.values.Value.TheVariants as value
 use Rattle.algolw_tree.specs.declared.phrases.Op.{Op}
 use Rattle.algolw_tree.specs.declared.phrases.Op.TheVariants as op
+use Rattle.algolw_tree.specs.declared.standard.Standard.{Standard}
+use Rattle.algolw_tree.specs.declared.standard.Standard.TheVariants as standard
 use Rattle.algolw_typing.specs.Types.{ValueType, Gives}
-use Rattle.algolw_typing.specs.Meanings.{FormalType, Standard, Odd, BitString, Number, Code, Decode, Read, ReadOn, ReadCard, Write, WriteOn, IoControl, MaxInteger}
+use Rattle.algolw_typing.specs.Meanings.{FormalType}
 use Rattle.algolw_typing.specs.Typed as typed
 use Rattle.program_meaning.specs.Phrases as phrase
 use Rattle.program_meaning.specs.Phrases.{Phrase, Phrases, no_phrases, phrase_and, Targets, no_targets, target_and, Subscripts, no_subscripts, star_and, subscript_and, Actuals, no_actuals, actual_and, Actual, Given, Alone, Subarray, Items, no_items, item_and, Bounds, no_bounds, bound_and, Decls, no_decls, variables_and, arrays_and, procedure_and, Name, Formal, places, formal_places, decl_places, label_places, block_places}
 use Rattle.program_meaning.specs.Translating as translating
-use Rattle.program_meaning.specs.Translating.{Context, Declared, unknown, formal_declared, type_of_formal, is_logical_given, decls_known, formals_known, formals_of, each_formal, names_at, places_of, with_known, linked, negated, signed, function, first_of, phrase_of, kind_of, perhaps_of, phrases_of, chain_of, named_of, parts_of, given_of, targets_of, subscripts_of, actuals_of, actual_of, items_of, bounds_of, decls_of, decl_of}
+use Rattle.program_meaning.specs.Translating.{Context, Declared, unknown, formal_declared, type_of_formal, is_logical_given, decls_known, formals_known, formals_of, each_formal, names_at, places_of, with_known, linked, negated, signed, first_of, phrase_of, kind_of, perhaps_of, phrases_of, chain_of, named_of, parts_of, given_of, targets_of, subscripts_of, actuals_of, actual_of, items_of, bounds_of, decls_of, decl_of}
 use Rattle.program_soundness.specs.Kinds as kinds
 use Rattle.program_soundness.specs.Kinds.{Meaning}
 use Rattle.program_soundness.specs.Tables.{Info, bound_count, each_info, group_info, fields_info, decl_info, decls_info, labels_info, formals_info, control_info, infos, kind_infos, perhaps_infos, nodes_infos, links_infos, lists_infos, actuals_infos, items_infos, bounds_infos, decls_infos, inner_infos}
@@ -141,20 +143,6 @@ module _ (m : Place → ℕ) where
   signed_bound true a = omega arith
   signed_bound false a = omega arith
 
-  function_bound : (s : Standard) (a : Phrase) → bound (function s a) ≤ bound a
-  function_bound Odd a = omega arith
-  function_bound BitString a = omega arith
-  function_bound Number a = omega arith
-  function_bound Code a = omega arith
-  function_bound Decode a = omega arith
-  function_bound Read a = omega arith
-  function_bound ReadOn a = omega arith
-  function_bound ReadCard a = omega arith
-  function_bound Write a = omega arith
-  function_bound WriteOn a = omega arith
-  function_bound IoControl a = omega arith
-  function_bound MaxInteger a = omega arith
-
   first_bound : (as_ : Phrases) → bound (first_of as_) ≤ phrases_bound as_
   first_bound no_phrases = omega arith
   first_bound (phrase_and a rest) = omega arith
@@ -170,49 +158,31 @@ module _ (m : Place → ℕ) where
   -- ---- standard names
 
   standard_alone : (s : Standard) (c : Context) (p f : Place) (st : Option Place) (x : Place) → bound (named_of c p f st x (translating.a_standard_name s) typed.no_lists) ≤ 0
-  standard_alone Odd c p f st x = omega arith
-  standard_alone BitString c p f st x = omega arith
-  standard_alone Number c p f st x = omega arith
-  standard_alone Code c p f st x = omega arith
-  standard_alone Decode c p f st x = omega arith
-  standard_alone Read c p f st x = omega arith
-  standard_alone ReadOn c p f st x = omega arith
-  standard_alone ReadCard c p f st x = omega arith
-  standard_alone Write c p f st x = omega arith
-  standard_alone WriteOn c p f st x = omega arith
-  standard_alone IoControl c p f st x = omega arith
-  standard_alone MaxInteger c p f st x = omega arith
+  standard_alone (standard.Function op) c p f st x = omega arith
+  standard_alone (standard.Read on) c p f st x = omega arith
+  standard_alone standard.ReadCard c p f st x = omega arith
+  standard_alone (standard.Write on) c p f st x = omega arith
+  standard_alone standard.IoControl c p f st x = omega arith
+  standard_alone standard.MaxInteger c p f st x = omega arith
 
   standard_part : (s : Standard) (q : Place) (start : typed.Node) (n : ℤ) (rest : typed.Lists) (c : Context) (p f : Place) (st : Option Place) (x : Place)
       → bound (named_of c p f st x (translating.a_standard_name s) (typed.list_and (typed.OfPart q start n) rest)) ≤ infos_weight (lists_infos (typed.list_and (typed.OfPart q start n) rest))
-  standard_part Odd q start n rest c p f st x = omega arith
-  standard_part BitString q start n rest c p f st x = omega arith
-  standard_part Number q start n rest c p f st x = omega arith
-  standard_part Code q start n rest c p f st x = omega arith
-  standard_part Decode q start n rest c p f st x = omega arith
-  standard_part Read q start n rest c p f st x = omega arith
-  standard_part ReadOn q start n rest c p f st x = omega arith
-  standard_part ReadCard q start n rest c p f st x = omega arith
-  standard_part Write q start n rest c p f st x = omega arith
-  standard_part WriteOn q start n rest c p f st x = omega arith
-  standard_part IoControl q start n rest c p f st x = omega arith
-  standard_part MaxInteger q start n rest c p f st x = omega arith
+  standard_part (standard.Function op) q start n rest c p f st x = omega arith
+  standard_part (standard.Read on) q start n rest c p f st x = omega arith
+  standard_part standard.ReadCard q start n rest c p f st x = omega arith
+  standard_part (standard.Write on) q start n rest c p f st x = omega arith
+  standard_part standard.IoControl q start n rest c p f st x = omega arith
+  standard_part standard.MaxInteger q start n rest c p f st x = omega arith
 
   standard_given : (s : Standard) (q : Place) (actuals : typed.Actuals) (rest : typed.Lists) (c : Context) (p f : Place) (st : Option Place) (x : Place) → phrases_bound (given_of c actuals) ≤ infos_weight (actuals_infos actuals) → targets_bound (targets_of c actuals) ≤ infos_weight (actuals_infos actuals)
       → ((a : Phrase) → bound (parts_of c 1 a rest) ≤ bound a + infos_weight (lists_infos rest))
       → bound (named_of c p f st x (translating.a_standard_name s) (typed.list_and (typed.OfActuals q actuals) rest)) ≤ infos_weight (actuals_infos actuals) + infos_weight (lists_infos rest)
-  standard_given Odd q actuals rest c p f st x h k more = omega (arith, h, function_bound Odd (first_of (given_of c actuals)), first_bound (given_of c actuals), more (function Odd (first_of (given_of c actuals))))
-  standard_given BitString q actuals rest c p f st x h k more = omega (arith, h, function_bound BitString (first_of (given_of c actuals)), first_bound (given_of c actuals), more (function BitString (first_of (given_of c actuals))))
-  standard_given Number q actuals rest c p f st x h k more = omega (arith, h, function_bound Number (first_of (given_of c actuals)), first_bound (given_of c actuals), more (function Number (first_of (given_of c actuals))))
-  standard_given Code q actuals rest c p f st x h k more = omega (arith, h, function_bound Code (first_of (given_of c actuals)), first_bound (given_of c actuals), more (function Code (first_of (given_of c actuals))))
-  standard_given Decode q actuals rest c p f st x h k more = omega (arith, h, function_bound Decode (first_of (given_of c actuals)), first_bound (given_of c actuals), more (function Decode (first_of (given_of c actuals))))
-  standard_given Read q actuals rest c p f st x h k more = omega (arith, k)
-  standard_given ReadOn q actuals rest c p f st x h k more = omega (arith, k)
-  standard_given ReadCard q actuals rest c p f st x h k more = omega (arith, k)
-  standard_given Write q actuals rest c p f st x h k more = omega (arith, h)
-  standard_given WriteOn q actuals rest c p f st x h k more = omega (arith, h)
-  standard_given IoControl q actuals rest c p f st x h k more = omega (arith, h, first_bound (given_of c actuals))
-  standard_given MaxInteger q actuals rest c p f st x h k more = omega arith
+  standard_given (standard.Function op) q actuals rest c p f st x h k more = omega (arith, h, first_bound (given_of c actuals), more (phrase.Unary op (first_of (given_of c actuals))))
+  standard_given (standard.Read on) q actuals rest c p f st x h k more = omega (arith, k)
+  standard_given standard.ReadCard q actuals rest c p f st x h k more = omega (arith, k)
+  standard_given (standard.Write on) q actuals rest c p f st x h k more = omega (arith, h)
+  standard_given standard.IoControl q actuals rest c p f st x h k more = omega (arith, h, first_bound (given_of c actuals))
+  standard_given standard.MaxInteger q actuals rest c p f st x h k more = omega arith
 
   -- ---- trees
 

@@ -1,7 +1,7 @@
 -- A program without faults may be compiled.
 use Rattle.std.proofs.Common.{◌≡◌, ℕ, suc, ◌≤◌, List, [], ◌∷◌, ◌++◌, map, get_or, refl, sym, subst, ap, ◌∙◌, arith}
 use Rattle.std.proofs.lemmas.List.{map-append}
-use Rattle.std.specs.Prelude.{true, false, codes}
+use Rattle.std.specs.Prelude.{true, false}
 use Rattle.value_ops.specs.declared.places.Place.{Place}
 use Rattle.algolw_tree.specs.declared.programs.NameInfo.{NameInfo}
 use Rattle.algolw_tree.specs.Tree.{Phrase}
@@ -24,7 +24,7 @@ use Rattle.program_soundness.specs.Tables.{infos, all_infos, standard_infos, tab
 use Rattle.faultless_programs.specs.Laws.{IsDeckTree, IsPlaced}
 use Rattle.faultless_programs.proofs.Agreeing.{agree_two, apart_agree}
 use Rattle.faultless_programs.proofs.Programs.{round_program, programs_without_faults_fit}
-use Rattle.compilable_programs.specs.Begun.{Begun, standard_place}
+use Rattle.compilable_programs.specs.Begun.{Begun}
 use Rattle.compilable_programs.specs.Compiled.{name_places, class_places, standard_places}
 use Rattle.compilable_programs.specs.Laws.{ProgramsWithoutFaultsAreCompilable}
 use Rattle.compilable_programs.specs.Suits.{Suits}
@@ -99,22 +99,30 @@ own_weights x i p e =
       nowhere_weighs p (infos (program_of x).root) (i.on_cards p e),
     )
 
--- the last of the standard names
-abbrev last_standard : NameInfo
-last_standard = record { name = codes "MAXINTEGER"; place = standard_place 12; level = 0; slot = 11 }
+-- the last of names, and those before it
+abbrev last_from : NameInfo → List NameInfo → NameInfo
+last_from i [] = i
+last_from i (j ∷ names) = last_from j names
 
--- one of the standard names put among others, by its slot
-abbrev put : ℕ → List ℕ → List NameInfo → List NameInfo
-put n name is = inserted_by (λ j. j.place) (record { name = name; place = standard_place (suc n); level = 0; slot = n }) is
+abbrev before_last : NameInfo → List NameInfo → List NameInfo
+before_last i [] = []
+before_last i (j ∷ names) = i ∷ before_last j names
 
-abbrev puts_last : List NameInfo → List NameInfo
-puts_last is = put 6 (codes "READON") (put 7 (codes "READCARD") (put 8 (codes "WRITE") (put 9 (codes "WRITEON") (put 10 (codes "IOCONTROL") is))))
+abbrev last_of : List NameInfo → NameInfo
+last_of [] = record { name = []; place = nowhere; level = 0; slot = 0 }
+last_of (i ∷ names) = last_from i names
 
-abbrev puts : List NameInfo → List NameInfo
-puts is = put 0 (codes "ODD") (put 1 (codes "BITSTRING") (put 2 (codes "NUMBER") (put 3 (codes "CODE") (put 4 (codes "DECODE") (put 5 (codes "READ") (puts_last is))))))
+abbrev but_last : List NameInfo → List NameInfo
+but_last [] = []
+but_last (i ∷ names) = before_last i names
+
+-- names put among others, the last of them first
+abbrev puts : List NameInfo → List NameInfo → List NameInfo
+puts [] is = is
+puts (i ∷ names) is = inserted_by (λ j. j.place) i (puts names is)
 
 standard_first : (x : Phrase) → IsPlaced x → (program_of x).names ≡ standard_infos_of ++ own_names x
-standard_first x i = ap puts (put_in_front last_standard (own_names x) refl (all_on_cards (own_names x) (own_weights x i)))
+standard_first x i = ap (puts (but_last standard_infos_of)) (put_in_front (last_of standard_infos_of) (own_names x) refl (all_on_cards (own_names x) (own_weights x i)))
 
 standard_names_first : (x : Phrase) → IsPlaced x → name_places (program_of x) ≡ standard_places ++ map (λ (i : NameInfo). i.place) (own_names x)
 standard_names_first x i = ap (map (λ (j : NameInfo). j.place)) (standard_first x i) ∙ map-append (λ (j : NameInfo). j.place) standard_infos_of (own_names x)

@@ -1,41 +1,27 @@
 ghost use Rattle.std.specs.Prelude.{◌≡◌, ◌<◌, length};
 ghost use Rattle.std.specs.Option.{option_map};
+ghost use Rattle.algolw_tree.specs.Standards.{spelled};
 ghost use Rattle.algolw_typing.specs.Names.{declared, in_scope};
+ghost use Rattle.algolw_typing.specs.Scopes.{standard_entries};
 ghost use Rattle.declared_names.specs.KnownView.{entry_of};
-ghost use Rattle.declared_names.specs.Standards.{standard_entries, standard_path};
+ghost use Rattle.declared_names.specs.Standards.{standard_path};
 
 use crate::known::Known;
-use algolw_tree::Spelling;
-use typing_rules::{Meaning, Reading, Standard};
+use algolw_tree::{STANDARD, Spelling, Standard};
+use typing_rules::{Meaning, Reading};
 use value_ops::Place;
-
-/// The standard names, which stand on card 0, each in the column of its number here.
-const STANDARD_NAMES: [(&[u8], Standard); 12] = [
-    (b"ODD", Standard::Odd),
-    (b"BITSTRING", Standard::BitString),
-    (b"NUMBER", Standard::Number),
-    (b"CODE", Standard::Code),
-    (b"DECODE", Standard::Decode),
-    (b"READ", Standard::Read),
-    (b"READON", Standard::ReadOn),
-    (b"READCARD", Standard::ReadCard),
-    (b"WRITE", Standard::Write),
-    (b"WRITEON", Standard::WriteOn),
-    (b"IOCONTROL", Standard::IoControl),
-    (b"MAXINTEGER", Standard::MaxInteger),
-];
 
 /// What is known of a standard name, in the scope around each program.
 pub(crate) fn standard_known<'a>(name: &Spelling) -> Option<Known<'a>>
     ensures { option_map (entry_of name.now) result ≡ declared standard_path name.now }
 {
-    known_on_no_card(&STANDARD_NAMES, name)
+    known_on_no_card(&STANDARD, name)
 }
 
 /// What is known of a name among these standard ones, which stand on card 0, each in the column of its number.
 fn known_on_no_card<'a>(names: &[(&[u8], Standard)], name: &Spelling) -> Option<Known<'a>>
     requires { length names.now < 255 }
-    ensures { option_map (entry_of name.now) result ≡ in_scope (standard_entries 1 names.now) name.now }
+    ensures { option_map (entry_of name.now) result ≡ in_scope (standard_entries 1 (spelled names.now)) name.now }
 {
     for (position, (text, standard)) in names.iter().enumerate() {
         if *text == name.as_slice() {

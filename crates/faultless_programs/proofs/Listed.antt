@@ -5,11 +5,15 @@ use Rattle.std.specs.Option.{option_map}
 use Rattle.std.specs.Prelude.{Option, Some, None, true, false, slice_get}
 use Rattle.value_ops.specs.declared.places.Place.{Place}
 use Rattle.value_ops.specs.declared.places.Diagnostic.{Diagnostic}
+use Rattle.algolw_tree.specs.declared.standard.Standard.{Standard}
+use Rattle.algolw_tree.specs.declared.standard.Standard.TheVariants as standard
+use Rattle.algolw_tree.specs.declared.standard.Basic.TheVariants as basic
+use Rattle.algolw_tree.specs.Standards as standards
 use Rattle.algolw_typing.specs.Names.{Entry}
-use Rattle.algolw_typing.specs.Types.{ValueType, Gives, Statement, Simple, Integer, Logical, Bits, Str, Reference, is_bits}
+use Rattle.algolw_typing.specs.Types.{ValueType, Gives, Statement, Simple, Integer, Logical, Bits, Str, Reference}
 use Rattle.algolw_typing.specs.Verdicts.{Verdict, Good}
 use Rattle.algolw_typing.specs.Meanings as typing
-use Rattle.algolw_typing.specs.Meanings.{Part, FormalType, base_row, no_base, gives_of, standard_row, is_character}
+use Rattle.algolw_typing.specs.Meanings.{Part, FormalType, base_row, no_base, gives_of, standard_row, basic_type}
 use Rattle.algolw_typing.specs.Actuals.{Reading, as_phrases, for_formals, at_run_time, list_row, call_row, formal_call_row}
 use Rattle.algolw_typing.specs.Scopes.{Known, Scopes}
 use Rattle.algolw_typing.specs.Typed as typed
@@ -26,7 +30,7 @@ use Rattle.faultless_programs.proofs.Rows.{good_gives}
 use Rattle.faultless_programs.proofs.Round.{Told, Present, Round, known_is, meant_is}
 use Rattle.faultless_programs.proofs.Fitted.{Fitted}
 use Rattle.faultless_programs.proofs.Names.{fitted_name, variable_fits}
-use Rattle.faultless_programs.proofs.Parts.{want_by, want_value, HasLength, has_length, GivenFit, array_fits, class_fits, field_fits, function_fits, number_fits, write_fits, read_fits, card_fits}
+use Rattle.faultless_programs.proofs.Parts.{want_by, want_value, HasLength, has_length, GivenFit, array_fits, class_fits, field_fits, one_value_fits, basic_proper, basic_length, write_fits, read_fits, card_fits}
 
 no_base_never : (p : Place) (start : Option Gives) (g : Gives) → no_base p start ≡ Good g → ⊥
 no_base_never p None g e = cc
@@ -43,14 +47,6 @@ result_by (Some t) = refl
 length_result : (r : Option ValueType) → HasLength (length_given r) (gives_of r)
 length_result None = tt
 length_result (Some t) = has_length t
-
-bits_kind : (t : ValueType) → is_bits t ≡ true → kind_of t ≡ kinds.some_bits
-bits_kind Bits e = refl
-bits_kind _ e = absurd (cc e)
-
-character_kind : (t : ValueType) → is_character t ≡ true → kind_of t ≡ a_string
-character_kind (Str n) e = refl
-character_kind _ e = absurd (cc e)
 
 module _ (is : List Info) where
   abbrev table : Table
@@ -90,7 +86,7 @@ module _ (is : List Info) where
       let x = h (phrase.Call (counted f (Good g)) true p (phrase.Named e.place) phrase.no_actuals) (length_of t) a_value refl (subst (HasLength (length_of t)) i (has_length t)) (subst (λ y. Fits table d (phrase.Call (counted f (Good g)) true p (phrase.Named e.place) phrase.no_actuals) (want_by a_value y)) i (call (counted f (Good g)))) in
       fitted_name is c d inside p f e.place v _ (translating.a_procedure_formal (Some t)) g w (known_is is r e.place z ∙ s.0) x.0 (value_of d _ g x.1) (λ o u l. absurd (cc o))
   base_fits r p f q e typing.a_control s z start base g b k inside v w sn n ls h = absurd (cc (b ∙ ap Good k.1))
-  base_fits r p f q e (typing.a_standard typing.MaxInteger) s z start base g b k inside v w sn n ls h = absurd (cc (b ∙ ap Good k.1))
+  base_fits r p f q e (typing.a_standard standard.MaxInteger) s z start base g b k inside v w sn n ls h = absurd (cc (b ∙ ap Good k.1))
   base_fits r p f q e typing.a_label s z start base g b k inside v w sn n ls h = absurd (cc b)
   base_fits r p f q e (typing.a_procedure (Some t) (y ∷ fs)) s z start base g b k inside v w sn n ls h = absurd (no_base_never p start base b)
   base_fits r p f q e (typing.a_procedure None fs) s z start base g b k inside v w sn n ls h = absurd (no_base_never p start base b)
@@ -153,25 +149,24 @@ module _ (is : List Info) where
     fit : GivenFit table c d list parts
     fit = k s.1
 
-    statement : (dd : typing.Standard) → y ≡ Statement → known_at is e.place ≡ translating.a_standard_name dd → Fits table d (translating.named_of c p f (counted f (Good Statement)) e.place (translating.a_standard_name dd) (typed.list_and (typed.OfActuals q list) ls)) a_statement → Fitted table c d (out inside p f v (typed.Named e.place (typed.list_and (typed.OfActuals q list) ls)))
+    statement : (dd : Standard) → y ≡ Statement → known_at is e.place ≡ translating.a_standard_name dd → Fits table d (translating.named_of c p f (counted f (Good Statement)) e.place (translating.a_standard_name dd) (typed.list_and (typed.OfActuals q list) ls)) a_statement → Fitted table c d (out inside p f v (typed.Named e.place (typed.list_and (typed.OfActuals q list) ls)))
     statement dd i t x = fitted_name is c d inside p f e.place v (typed.list_and (typed.OfActuals q list) ls) (translating.a_standard_name dd) Statement (w ∙ ap Good (same (λ j n. absurd (cc (sym i ∙ n))) ∙ i)) (known_is is r e.place z ∙ t) tt x (λ o u l. absurd (cc o))
 
     ended : (t : ValueType) (front : Phrase) → y ≡ Simple t → IsProper t → HasLength 1 (Simple t) → Fits table d front (a_value (kind_of t)) → IsProperGiven g × Fits table d (parts_of c 1 front ls) (want_by a_value g)
     ended t front i n l x = h front 1 a_value refl (subst (HasLength 1) (sym i) l) (subst IsProperGiven (sym i) n) (subst (λ y. Fits table d front (want_by a_value y)) (sym i) x)
 
-    standard_fits : (st : typing.Standard) → known_at is e.place ≡ translating.a_standard_name st → standard_row p st parts ≡ Good y → Fitted table c d (out inside p f v (typed.Named e.place (typed.list_and (typed.OfActuals q list) ls)))
-    standard_fits typing.Write t b = let a = write_fits table c d p list parts y fit b in statement typing.Write a.1 t (refl, a.0)
-    standard_fits typing.WriteOn t b = let a = write_fits table c d p list parts y fit b in statement typing.WriteOn a.1 t (refl, a.0)
-    standard_fits typing.Read t b = let a = read_fits table c d p list parts y fit b in statement typing.Read a.1 t (refl, a.0)
-    standard_fits typing.ReadOn t b = let a = read_fits table c d p list parts y fit b in statement typing.ReadOn a.1 t (refl, a.0)
-    standard_fits typing.ReadCard t b = let a = card_fits table c d p list parts y fit b in statement typing.ReadCard a.1 t (refl, a.0)
-    standard_fits typing.IoControl t b = let a = function_fits table c d p list parts Statement y fit b in statement typing.IoControl a.1 t (refl, a.0)
-    standard_fits typing.MaxInteger t b = absurd (cc b)
-    standard_fits typing.Odd t b = let a = function_fits table c d p list parts (Simple Logical) y fit b in let x = ended Logical (translating.function typing.Odd (first_of (given_of c list))) a.1 tt tt (refl, a.0) in fitted_name is c d inside p f e.place v (typed.list_and (typed.OfActuals q list) ls) (translating.a_standard_name typing.Odd) g w (known_is is r e.place z ∙ t) x.0 (value_of d (parts_of c 1 (translating.function typing.Odd (first_of (given_of c list))) ls) g x.1) (λ o u l. absurd (cc o))
-    standard_fits typing.BitString t b = let a = function_fits table c d p list parts (Simple Bits) y fit b in let x = ended Bits (translating.function typing.BitString (first_of (given_of c list))) a.1 tt tt (refl, a.0) in fitted_name is c d inside p f e.place v (typed.list_and (typed.OfActuals q list) ls) (translating.a_standard_name typing.BitString) g w (known_is is r e.place z ∙ t) x.0 (value_of d (parts_of c 1 (translating.function typing.BitString (first_of (given_of c list))) ls) g x.1) (λ o u l. absurd (cc o))
-    standard_fits typing.Code t b = let a = function_fits table c d p list parts (Simple (Str 1)) y fit b in let x = ended (Str 1) (translating.function typing.Code (first_of (given_of c list))) a.1 (omega arith) refl (refl, a.0) in fitted_name is c d inside p f e.place v (typed.list_and (typed.OfActuals q list) ls) (translating.a_standard_name typing.Code) g w (known_is is r e.place z ∙ t) x.0 (value_of d (parts_of c 1 (translating.function typing.Code (first_of (given_of c list))) ls) g x.1) (λ o u l. absurd (cc o))
-    standard_fits typing.Number t b = let a = number_fits table c d p is_bits kinds.some_bits list parts y bits_kind fit b in let x = ended Integer (translating.function typing.Number (first_of (given_of c list))) a.1 tt tt (refl, a.0) in fitted_name is c d inside p f e.place v (typed.list_and (typed.OfActuals q list) ls) (translating.a_standard_name typing.Number) g w (known_is is r e.place z ∙ t) x.0 (value_of d (parts_of c 1 (translating.function typing.Number (first_of (given_of c list))) ls) g x.1) (λ o u l. absurd (cc o))
-    standard_fits typing.Decode t b = let a = number_fits table c d p is_character a_string list parts y character_kind fit b in let x = ended Integer (translating.function typing.Decode (first_of (given_of c list))) a.1 tt tt (refl, a.0) in fitted_name is c d inside p f e.place v (typed.list_and (typed.OfActuals q list) ls) (translating.a_standard_name typing.Decode) g w (known_is is r e.place z ∙ t) x.0 (value_of d (parts_of c 1 (translating.function typing.Decode (first_of (given_of c list))) ls) g x.1) (λ o u l. absurd (cc o))
+    standard_fits : (st : Standard) → known_at is e.place ≡ translating.a_standard_name st → standard_row p st parts ≡ Good y → Fitted table c d (out inside p f v (typed.Named e.place (typed.list_and (typed.OfActuals q list) ls)))
+    standard_fits (standard.Function op) t b =
+        let type = basic_type (standards.gives op) in
+        let front = phrase.Unary op (first_of (given_of c list)) in
+        let a = one_value_fits table c d p (standards.takes op) list parts (Simple type) y fit b in
+        let x = ended type front a.1 (basic_proper (standards.gives op)) (basic_length (standards.gives op)) (refl, a.0) in
+        fitted_name is c d inside p f e.place v (typed.list_and (typed.OfActuals q list) ls) (translating.a_standard_name (standard.Function op)) g w (known_is is r e.place z ∙ t) x.0 (value_of d (parts_of c 1 front ls) g x.1) (λ o u l. absurd (cc o))
+    standard_fits (standard.Read on) t b = let a = read_fits table c d p list parts y fit b in statement (standard.Read on) a.1 t (refl, a.0)
+    standard_fits standard.ReadCard t b = let a = card_fits table c d p list parts y fit b in statement standard.ReadCard a.1 t (refl, a.0)
+    standard_fits (standard.Write on) t b = let a = write_fits table c d p list parts y fit b in statement (standard.Write on) a.1 t (refl, a.0)
+    standard_fits standard.IoControl t b = let a = one_value_fits table c d p basic.Integer list parts Statement y fit b in statement standard.IoControl a.1 t (refl, a.0)
+    standard_fits standard.MaxInteger t b = absurd (cc b)
   list_fits r p f q e (typing.a_variable t) s z parts y g b inside v w list ls k call formal h same = absurd (cc b)
   list_fits r p f q e typing.a_control s z parts y g b inside v w list ls k call formal h same = absurd (cc b)
   list_fits r p f q e typing.a_label s z parts y g b inside v w list ls k call formal h same = absurd (cc b)

@@ -6,7 +6,7 @@ ghost use Rattle.program_meaning.specs.Operations.{gives};
 ghost use Rattle.machine_rows.specs.Answers.{IsAnswered, answered, unary_of, binary_words, relation_words, relation_of};
 ghost use Rattle.machine_rows.specs.Contents.{string_of, string_in};
 ghost use Rattle.machine_rows.specs.Kinds.{WideFits};
-ghost use Rattle.stack_code.specs.CodeView.{Given, unary_view};
+ghost use Rattle.stack_code.specs.CodeView.{Given};
 ghost use Rattle.short_text.specs.Blanks.{blanks};
 ghost use Rattle.short_text.specs.Order.{bytes_cmp};
 ghost use Rattle.value_ops.specs.Strings.{compared};
@@ -15,9 +15,8 @@ ghost use Rattle.machine_rows.specs.Seen.{Seen, Stands, Comes, machine_of, row_o
 use crate::held::{Halt, Held, reference};
 use crate::state::State;
 use crate::variables::hold_value;
-use algolw_tree::{Op, RelOp};
+use algolw_tree::{Op, RelOp, UnaryOp};
 use cell_store::{Wide, Word};
-use stack_code::UnaryOp;
 use std::cmp::Ordering;
 use value_ops::{
     ClassId, Fault, Text, Value, abs, add, and, bitstring, code, decode, div, mul, negate, not,
@@ -88,8 +87,8 @@ fn unary_operation(state: &mut State, op: UnaryOp, held: Held) -> Result<Held, H
 
 /// An operation on an integer.
 fn integer_changed(state: &mut State, op: UnaryOp, value: i32) -> Result<Held, Halt>
-    requires { IsAnswered (operations.unary (unary_view op) (Value.Integer value)) }
-    ensures answer { answered state.new.wide result ≡ operations.unary (unary_view op) (Value.Integer value) }
+    requires { IsAnswered (operations.unary op (Value.Integer value)) }
+    ensures answer { answered state.new.wide result ≡ operations.unary op (Value.Integer value) }
     ensures kept { state.new ≡ record state.old { wide = state.new.wide } }
     ensures unchanged { OnErr result (state.new ≡ state.old) }
     ensures fits { (g : Given) → WideFits g state.old.wide → WideFits g state.new.wide }
@@ -106,8 +105,8 @@ fn integer_changed(state: &mut State, op: UnaryOp, value: i32) -> Result<Held, H
 
 /// An operation on a truth value.
 fn logical_changed(op: UnaryOp, truth: bool) -> Held
-    requires { IsAnswered (operations.unary (unary_view op) (Value.Logical truth)) }
-    ensures { (w : Wide) → answered w (Ok result) ≡ operations.unary (unary_view op) (Value.Logical truth) }
+    requires { IsAnswered (operations.unary op (Value.Logical truth)) }
+    ensures { (w : Wide) → answered w (Ok result) ≡ operations.unary op (Value.Logical truth) }
 {
     match op {
         UnaryOp::Not => Held::logical(!truth),
@@ -117,8 +116,8 @@ fn logical_changed(op: UnaryOp, truth: bool) -> Held
 
 /// An operation on bits.
 fn bits_changed(op: UnaryOp, value: u32) -> Held
-    requires { IsAnswered (operations.unary (unary_view op) (Value.Bits value)) }
-    ensures { (w : Wide) → answered w (Ok result) ≡ operations.unary (unary_view op) (Value.Bits value) }
+    requires { IsAnswered (operations.unary op (Value.Bits value)) }
+    ensures { (w : Wide) → answered w (Ok result) ≡ operations.unary op (Value.Bits value) }
 {
     match op {
         UnaryOp::Complement => Held::Bits(not(value)),

@@ -1,6 +1,6 @@
 -- Names that stand on no card.
 use Rattle.std.specs.Prelude.{ℕ, suc, List, [], ◌∷◌}
-use denote.Ref.{Bor}
+use Rattle.algolw_tree.specs.Standards.{StandardNames}
 use Rattle.algolw_tree.specs.Tree.{Placed}
 use Rattle.algolw_typing.specs.Naming.{NamePath, scope_of, standard_names}
 
@@ -9,6 +9,6 @@ abbrev pub standard_path : NamePath
 standard_path = scope_of standard_names ∷ []
 
 -- each on card 0, in the next column
-abbrev pub on_no_card : ℕ → List (Bor (List ℕ)) → List Placed
+abbrev pub on_no_card : ℕ → StandardNames → List Placed
 on_no_card n [] = []
-on_no_card n (x ∷ xs) = (x.now, record { card = 0; column = n }) ∷ on_no_card (suc n) xs
+on_no_card n (x ∷ xs) = (x.0, record { card = 0; column = n }) ∷ on_no_card (suc n) xs

@@ -11,4 +11,3 @@ mod standard;
 pub use marks::{EachMark, MARKS, is_marked, mark_of};
 pub use path::ScopePath;
 pub use scope::Scope;
-pub use standard::STANDARD_NAMES;

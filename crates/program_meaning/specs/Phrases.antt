@@ -4,6 +4,7 @@ use Rattle.value_ops.specs.declared.places.Place.{Place}
 use Rattle.value_ops.specs.declared.values.Value.{Value}
 use Rattle.algolw_tree.specs.declared.phrases.Op.{Op}
 use Rattle.algolw_tree.specs.declared.phrases.RelOp.{RelOp}
+use Rattle.algolw_tree.specs.declared.standard.UnaryOp.{UnaryOp}
 use Rattle.algolw_typing.specs.Types.{ValueType, Gives, has}
 use Rattle.algolw_typing.specs.Meanings.{FormalType}
 
@@ -24,20 +25,6 @@ pub record Mark : Type 0 where
   pub is_variable : Bool
   pub statement : Place
   pub first : Place
-
--- operations on one value
-pub data UnaryOp : Type 0 where
-  Minus : UnaryOp
-  Absolute : UnaryOp
-  -- `~` of a LOGICAL, and of BITS
-  Not : UnaryOp
-  Complement : UnaryOp
-  -- the standard functions
-  IsOdd : UnaryOp
-  ToBits : UnaryOp
-  ToNumber : UnaryOp
-  ToCharacter : UnaryOp
-  ToCode : UnaryOp
 
 mutual
   pub data Phrase : Type 0 where

@@ -5,9 +5,12 @@ use Rattle.value_ops.specs.declared.values.Value.TheVariants as value
 use Rattle.algolw_tree.specs.declared.phrases.Op.{Op}
 use Rattle.algolw_tree.specs.declared.phrases.Op.TheVariants as op
 use Rattle.algolw_tree.specs.declared.programs.NameInfo.{NameInfo}
+use Rattle.algolw_tree.specs.declared.standard.Standard.{Standard}
+use Rattle.algolw_tree.specs.declared.standard.Standard.TheVariants as standard
+use Rattle.algolw_tree.specs.declared.standard.UnaryOp.TheVariants as unary
 use Rattle.algolw_typing.specs.Names.{Scope}
 use Rattle.algolw_typing.specs.Types.{ValueType, Gives, Statement, Simple, Integer, Logical, Str, is_place}
-use Rattle.algolw_typing.specs.Meanings.{Meaning, a_standard, Standard, Odd, BitString, Number, Code, Decode, Read, ReadOn, ReadCard, Write, WriteOn, IoControl, MaxInteger, FormalType, by_name, by_value, by_result, by_value_result, for_array, for_procedure}
+use Rattle.algolw_typing.specs.Meanings.{Meaning, a_standard, FormalType, by_name, by_value, by_result, by_value_result, for_array, for_procedure}
 use Rattle.algolw_typing.specs.Scopes as scopes
 use Rattle.algolw_typing.specs.Scopes.{standard_scope, formal_type}
 use Rattle.algolw_typing.specs.Typed as typed
@@ -175,25 +178,16 @@ linked true op.Or a b = IfThen None None a (Constant (value.Logical true)) b
 linked is_logical o a b = Binary o a b
 
 abbrev pub negated : Bool → Phrase → Phrase
-negated true a = Unary phrase.Not a
-negated false a = Unary phrase.Complement a
+negated true a = Unary unary.Not a
+negated false a = Unary unary.Complement a
 
 abbrev pub signed : Bool → Phrase → Phrase
-signed true a = Unary phrase.Minus a
+signed true a = Unary unary.Minus a
 signed false a = a
 
 abbrev pub first_of : Phrases → Phrase
 first_of no_phrases = phrase.Empty
 first_of (phrase_and a rest) = a
-
--- a standard function
-abbrev pub function : Standard → Phrase → Phrase
-function Odd a = Unary phrase.IsOdd a
-function BitString a = Unary phrase.ToBits a
-function Number a = Unary phrase.ToNumber a
-function Code a = Unary phrase.ToCharacter a
-function Decode a = Unary phrase.ToCode a
-function _ a = phrase.Empty
 
 abbrev pub places_of : List typed.Placed → List Place
 places_of [] = []
@@ -217,7 +211,7 @@ abbrev mutual
   kind_of c p first g st (typed.Goto x) = phrase.Goto (statement_at first st) (Named x)
   kind_of c p first g st (typed.Named x lists) = named_of c p first st x (declared_at c.known x) lists
   kind_of c p first g st (typed.Negated a) = negated (is_logical_given g) (phrase_of c a)
-  kind_of c p first g st (typed.Abs a) = Unary phrase.Absolute (phrase_of c a)
+  kind_of c p first g st (typed.Abs a) = Unary unary.Absolute (phrase_of c a)
   kind_of c p first g st (typed.Signed minus a) = signed minus (phrase_of c a)
   kind_of c p first g st (typed.Chain a links) = chain_of c (is_logical_given g) (phrase_of c a) links
   kind_of c p first g st (typed.Relation o a b) = phrase.Relation o (phrase_of c a) (phrase_of c b)
@@ -258,14 +252,12 @@ abbrev mutual
   named_of c p first st x (a_class types) (typed.list_and (typed.OfActuals q values) rest) = Record (name_at c x) types (given_of c values)
   named_of c p first st x (a_class types) lists = RecordAlone (name_at c x) (number_of types)
   named_of c p first st x (a_field class n t) (typed.list_and (typed.OfActuals q given) rest) = parts_of c (length_of t) (Field class n (first_of (given_of c given))) rest
-  named_of c p first st x (a_standard_name Write) (typed.list_and (typed.OfActuals q values) rest) = phrase.Write (statement_at first st) true (given_of c values)
-  named_of c p first st x (a_standard_name WriteOn) (typed.list_and (typed.OfActuals q values) rest) = phrase.Write (statement_at first st) false (given_of c values)
-  named_of c p first st x (a_standard_name Read) (typed.list_and (typed.OfActuals q targets) rest) = phrase.Read (statement_at first st) true (targets_of c targets)
-  named_of c p first st x (a_standard_name ReadOn) (typed.list_and (typed.OfActuals q targets) rest) = phrase.Read (statement_at first st) false (targets_of c targets)
-  named_of c p first st x (a_standard_name ReadCard) (typed.list_and (typed.OfActuals q targets) rest) = phrase.ReadCard (statement_at first st) (targets_of c targets)
-  named_of c p first st x (a_standard_name IoControl) (typed.list_and (typed.OfActuals q given) rest) = phrase.IoControl (statement_at first st) (first_of (given_of c given))
-  named_of c p first st x (a_standard_name MaxInteger) lists = Constant (value.Integer (pos 2147483647))
-  named_of c p first st x (a_standard_name s) (typed.list_and (typed.OfActuals q given) rest) = parts_of c 1 (function s (first_of (given_of c given))) rest
+  named_of c p first st x (a_standard_name (standard.Function op)) (typed.list_and (typed.OfActuals q given) rest) = parts_of c 1 (Unary op (first_of (given_of c given))) rest
+  named_of c p first st x (a_standard_name (standard.Write on)) (typed.list_and (typed.OfActuals q values) rest) = phrase.Write (statement_at first st) on (given_of c values)
+  named_of c p first st x (a_standard_name (standard.Read on)) (typed.list_and (typed.OfActuals q targets) rest) = phrase.Read (statement_at first st) on (targets_of c targets)
+  named_of c p first st x (a_standard_name standard.ReadCard) (typed.list_and (typed.OfActuals q targets) rest) = phrase.ReadCard (statement_at first st) (targets_of c targets)
+  named_of c p first st x (a_standard_name standard.IoControl) (typed.list_and (typed.OfActuals q given) rest) = phrase.IoControl (statement_at first st) (first_of (given_of c given))
+  named_of c p first st x (a_standard_name standard.MaxInteger) lists = Constant (value.Integer (pos 2147483647))
   named_of c p first st x d lists = Named x
 
   -- substring lists behind a string of m characters

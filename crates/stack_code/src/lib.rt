@@ -14,7 +14,7 @@ pub use code::{Code, ProgramTables};
 pub use heads::{
     CodedName, ComparedCall, Formal, FormalType, ProcedureHead, Reading, Stars, TextHead,
 };
-pub use instructions::{Coded, Constant, Instr, Mode, Purpose, Source, UnaryOp};
+pub use instructions::{Coded, Constant, Instr, Mode, Purpose, Source};
 pub use laws::{
     code_is_made, displays_are_links, numbers_are_told, outcomes_are_one, outcomes_stay,
     rows_are_not_stuck,

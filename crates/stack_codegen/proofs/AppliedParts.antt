@@ -10,7 +10,6 @@ use Rattle.value_ops.specs.declared.values.Value.TheVariants as value
 use Rattle.algolw_tree.specs.declared.programs.Node.{Node}
 use Rattle.algolw_tree.specs.declared.programs.TypedActual.{TypedActual}
 use Rattle.algolw_tree.specs.declared.programs.TypedList.{TypedList}
-use Rattle.algolw_typing.specs.Meanings as typing
 use Rattle.algolw_typing.specs.Typed as typed
 use Rattle.algolw_typing.specs.Types.{ValueType, has}
 use Rattle.algolw_typing.specs.ProgramView.{Numbers, numbered}
@@ -30,14 +29,14 @@ use Rattle.stack_code.specs.declared.instructions.Constant.TheVariants as consta
 use Rattle.stack_code.specs.declared.instructions.Instr.{Instr}
 use Rattle.stack_code.specs.declared.instructions.Instr.TheVariants as held
 use Rattle.stack_code.specs.declared.instructions.Mode.{Mode}
-use Rattle.stack_code.specs.declared.instructions.UnaryOp.{UnaryOp}
-use Rattle.stack_code.specs.declared.instructions.UnaryOp.TheVariants as unary
+use Rattle.algolw_tree.specs.declared.standard.UnaryOp.{UnaryOp}
 use Rattle.symbol_table.specs.declared.here.Here.{Here}
 use Rattle.symbol_table.specs.declared.standings.Class.{Class}
-use Rattle.symbol_table.specs.declared.standings.Standard.TheVariants as standard
+use Rattle.algolw_tree.specs.declared.standard.Standard.{Standard}
+use Rattle.algolw_tree.specs.declared.standard.Standard.TheVariants as standard
 use Rattle.symbol_table.specs.declared.standings.Standing.{Standing}
 use Rattle.symbol_table.specs.declared.standings.Standing.TheVariants as standing
-use Rattle.symbol_table.specs.Contexts.{Scene, StandingFits, coding_context, numbers_in, phrase_context, place_of, stand_for, standard_name}
+use Rattle.symbol_table.specs.Contexts.{Scene, StandingFits, coding_context, numbers_in, phrase_context, place_of, stand_for}
 use Rattle.symbol_table.specs.Heres.{in_statement}
 use Rattle.symbol_table.specs.Parts.{actuals_in, lists_in}
 use Rattle.symbol_table.specs.Standings.{standing_of}
@@ -54,13 +53,12 @@ use Rattle.stack_codegen.specs.Codable.{CodesNode, IsCodable, IsCodableActuals, 
 use Rattle.stack_codegen.specs.Listed.{AreParted, CodesPlan, ContinuesParts, ListedSuits, PartsSuit, begins_with_phrases, listed_marks, parts_given, phrase_count, plan_code, plan_here}
 use Rattle.stack_codegen.specs.Names.{AloneFits, alone_instr, is_applied, list_plan, named_node, standard_plan, with_alone}
 use Rattle.stack_codegen.specs.Names as names
-use Rattle.symbol_table.specs.Contexts.{IsFunction, StandsAt}
+use Rattle.symbol_table.specs.Contexts.{StandsAt}
 use Rattle.symbol_table.proofs.There.{stands_there}
 use Rattle.stack_codegen.proofs.StandsThere.{standing_fits}
 use Rattle.value_ops.specs.declared.values.ClassId.{ClassId}
 use Rattle.compilable_programs.specs.Begun.{IsStatement}
 use Rattle.phrase_code.specs.Marks.{marks}
-use Rattle.stack_code.specs.CodeView.{unary_view}
 use Rattle.symbol_table.specs.declared.standings.Entry.{Entry}
 use Rattle.code_emitter.specs.Parts.{code_at}
 use Rattle.stack_codegen.specs.declared.lists.ListUse.{ListUse}
@@ -113,24 +111,17 @@ module _ (s : Scene) (node : Node) (name : ℕ) (here : Here) (u : Mode) (n : �
   abbrev first : Phrase
   first = first_of (given_of (phrase_context s) given)
 
-  function_suits : (op : UnaryOp) → IsFunction op → Suits (sizes_known s) (named_as s node name (standing.Standard (standard.Function op)) (typed.list_and (typed.OfActuals q given) rest)) → Suits (sizes_known s) first × PartsSuit (Some 1) s rest
-  function_suits unary.IsOdd i h = ((parts_suit (sizes_known s) (phrase_context s) 1 (phrases.Unary phrases.IsOdd first) rest h).0, parts_after (sizes_known s) (phrase_context s) 1 (phrases.Unary phrases.IsOdd first) rest h)
-  function_suits unary.ToBits i h = ((parts_suit (sizes_known s) (phrase_context s) 1 (phrases.Unary phrases.ToBits first) rest h).0, parts_after (sizes_known s) (phrase_context s) 1 (phrases.Unary phrases.ToBits first) rest h)
-  function_suits unary.ToNumber i h = ((parts_suit (sizes_known s) (phrase_context s) 1 (phrases.Unary phrases.ToNumber first) rest h).0, parts_after (sizes_known s) (phrase_context s) 1 (phrases.Unary phrases.ToNumber first) rest h)
-  function_suits unary.ToCharacter i h = ((parts_suit (sizes_known s) (phrase_context s) 1 (phrases.Unary phrases.ToCharacter first) rest h).0, parts_after (sizes_known s) (phrase_context s) 1 (phrases.Unary phrases.ToCharacter first) rest h)
-  function_suits unary.ToCode i h = ((parts_suit (sizes_known s) (phrase_context s) 1 (phrases.Unary phrases.ToCode first) rest h).0, parts_after (sizes_known s) (phrase_context s) 1 (phrases.Unary phrases.ToCode first) rest h)
-  function_suits op i h = absurd i
+  function_suits : (op : UnaryOp) → Suits (sizes_known s) (named_as s node name (standing.Standard (standard.Function op)) (typed.list_and (typed.OfActuals q given) rest)) → Suits (sizes_known s) first × PartsSuit (Some 1) s rest
+  function_suits op h = ((parts_suit (sizes_known s) (phrase_context s) 1 (phrases.Unary op first) rest h).0, parts_after (sizes_known s) (phrase_context s) 1 (phrases.Unary op first) rest h)
 
   pub planned_suits : (x : Standing) (plan : ListPlan) → StandsAt s (place_of s name) x → list_plan here u x n ≡ Some plan → Suits (sizes_known s) (named_as s node name x (typed.list_and (typed.OfActuals q given) rest)) → Suit plan
   planned_suits (standing.Array t e) plan there h k = by_plan Suit _ plan h (string_suits t (phrases.Element (phrases.Named (at s name)) (given_of (phrase_context s) given)) k)
   planned_suits (standing.Class c) plan there h k = by_plan Suit _ plan h (k, tt)
   planned_suits (standing.Field c i t) plan there h k = by_plan Suit _ plan h (string_suits t (phrases.Field (class_place s.given c) i first) k)
-  planned_suits (standing.Standard (standard.Function op)) plan there h k = by_plan Suit _ plan h (function_suits op there k)
-  planned_suits (standing.Standard (standard.Read true)) plan there h k = by_plan Suit _ plan h (k, tt)
-  planned_suits (standing.Standard (standard.Read false)) plan there h k = by_plan Suit _ plan h (k, tt)
+  planned_suits (standing.Standard (standard.Function op)) plan there h k = by_plan Suit _ plan h (function_suits op k)
+  planned_suits (standing.Standard (standard.Read on)) plan there h k = by_plan Suit _ plan h (k, tt)
   planned_suits (standing.Standard standard.ReadCard) plan there h k = by_plan Suit _ plan h (k, tt)
-  planned_suits (standing.Standard (standard.Write true)) plan there h k = by_plan Suit _ plan h (k, tt)
-  planned_suits (standing.Standard (standard.Write false)) plan there h k = by_plan Suit _ plan h (k, tt)
+  planned_suits (standing.Standard (standard.Write start)) plan there h k = by_plan Suit _ plan h (k, tt)
   planned_suits (standing.Standard standard.IoControl) plan there h k = by_plan Suit _ plan h (k, tt)
   planned_suits x plan there h k = absurd (cc h)
 
@@ -208,23 +199,15 @@ module _ (a b : Emitter) (m : ℕ) (fits : EmitterFits a) (here : Here) (u : Mod
   }
 
   -- a standard function, as phrases have it
-  function_planned : (op : UnaryOp) → IsFunction op → IsPlanned (standing.Standard (standard.Function op)) (record { begins = false; list = None; does = held.Unary op; whole = Some 1 })
-  function_planned op i part = record {
-    phrase = phrases.Unary (unary_view op) (first_of gs);
+  function_planned : (op : UnaryOp) → IsPlanned (standing.Standard (standard.Function op)) (record { begins = false; list = None; does = held.Unary op; whole = Some 1 })
+  function_planned op part = record {
+    phrase = phrases.Unary op (first_of gs);
     codes = codes_as _ _ (λ ts h.
         let d : coding.Context = coding_context s ts here in
         let w : Place = place_in s here in
-        ap (λ k. coding.code d w instr.the_value k (first_of gs) ▸ one w (instr.Unary (unary_view op))) from_there) refl part;
-    named = λ rest. by op i rest;
+        ap (λ k. coding.code d w instr.the_value k (first_of gs) ▸ one w (instr.Unary op)) from_there) refl part;
+    named = λ rest. refl;
   }
-    where
-      by : (o : UnaryOp) → IsFunction o → (rest : typed.Lists) → parts_of (phrase_context s) 1 (phrases.Unary (unary_view o) (first_of gs)) rest ≡ named_as s node name (standing.Standard (standard.Function o)) (typed.list_and (typed.OfActuals q given) rest)
-      by unary.IsOdd j rest = refl
-      by unary.ToBits j rest = refl
-      by unary.ToNumber j rest = refl
-      by unary.ToCharacter j rest = refl
-      by unary.ToCode j rest = refl
-      by o j rest = absurd j
 
   -- what begins a statement
   abbrev st : Place
@@ -251,18 +234,10 @@ module _ (a b : Emitter) (m : ℕ) (fits : EmitterFits a) (here : Here) (u : Mod
   }
 
   read_planned : (on : Bool) → has standard_procedures (place_of s name) ≡ true → IsPlanned (standing.Standard (standard.Read on)) (names.transfer (list.Read on))
-  read_planned on h = begun_planned (standing.Standard (standard.Read on)) (Some (list.Read on)) held.Nothing (λ c w. one w instr.Begin ▸ coding.code_reads c w on (next a + 1) (targets_of (phrase_context s) given) ▸ one w instr.Nothing) (phrases.Read st on (targets_of (phrase_context s) given)) h (λ ts. refl) (λ ts. refl) refl (by on)
-    where
-      by : (o : Bool) (rest : typed.Lists) → phrases.Read st o (targets_of (phrase_context s) given) ≡ named_as s node name (standing.Standard (standard.Read o)) (typed.list_and (typed.OfActuals q given) rest)
-      by true rest = refl
-      by false rest = refl
+  read_planned on h = begun_planned (standing.Standard (standard.Read on)) (Some (list.Read on)) held.Nothing (λ c w. one w instr.Begin ▸ coding.code_reads c w on (next a + 1) (targets_of (phrase_context s) given) ▸ one w instr.Nothing) (phrases.Read st on (targets_of (phrase_context s) given)) h (λ ts. refl) (λ ts. refl) refl (λ rest. refl)
 
   write_planned : (start : Bool) → has standard_procedures (place_of s name) ≡ true → IsPlanned (standing.Standard (standard.Write start)) (names.transfer (list.Write start))
-  write_planned start h = begun_planned (standing.Standard (standard.Write start)) (Some (list.Write start)) held.Nothing (λ c w. one w instr.Begin ▸ coding.code_writes c w start (next a + 1) gs ▸ one w instr.Nothing) (phrases.Write st start gs) h (λ ts. refl) (λ ts. refl) refl (by start)
-    where
-      by : (o : Bool) (rest : typed.Lists) → phrases.Write st o gs ≡ named_as s node name (standing.Standard (standard.Write o)) (typed.list_and (typed.OfActuals q given) rest)
-      by true rest = refl
-      by false rest = refl
+  write_planned start h = begun_planned (standing.Standard (standard.Write start)) (Some (list.Write start)) held.Nothing (λ c w. one w instr.Begin ▸ coding.code_writes c w start (next a + 1) gs ▸ one w instr.Nothing) (phrases.Write st start gs) h (λ ts. refl) (λ ts. refl) refl (λ rest. refl)
 
   pub planned : (y : Standing) → y ≡ x → (plan : ListPlan) → list_plan here u y (phrase_count actuals) ≡ Some plan → IsPlanned y plan
   planned (standing.Array t e) o plan h = by_plan (IsPlanned (standing.Array t e)) _ plan h (array_planned t e (is ∙ sym o))
@@ -270,7 +245,7 @@ module _ (a b : Emitter) (m : ℕ) (fits : EmitterFits a) (here : Here) (u : Mod
       by_plan (IsPlanned (standing.Class c)) _ plan h
       (record_planned c (subst (StandingFits s) (is ∙ sym o) (standing_fits s fits.scene name)) (subst (StandsAt s (place_of s name)) (sym o) there))
   planned (standing.Field c i t) o plan h = by_plan (IsPlanned (standing.Field c i t)) _ plan h (field_planned c i t)
-  planned (standing.Standard (standard.Function op)) o plan h = by_plan (IsPlanned (standing.Standard (standard.Function op))) _ plan h (function_planned op (subst (StandsAt s (place_of s name)) (sym o) there))
+  planned (standing.Standard (standard.Function op)) o plan h = by_plan (IsPlanned (standing.Standard (standard.Function op))) _ plan h (function_planned op)
   planned (standing.Standard (standard.Read on)) o plan h = by_plan (IsPlanned (standing.Standard (standard.Read on))) _ plan h (read_planned on (subst (StandsAt s (place_of s name)) (sym o) there))
   planned (standing.Standard (standard.Write start)) o plan h = by_plan (IsPlanned (standing.Standard (standard.Write start))) _ plan h (write_planned start (subst (StandsAt s (place_of s name)) (sym o) there))
   planned (standing.Standard standard.ReadCard) o plan h =
@@ -337,13 +312,13 @@ module _ (s : Scene) (node : Node) (name : ℕ) where
   none_of_field c i t (typed.list_and (typed.OfActuals q given) rest) h = absurd (cc h)
 
   -- but for MAXINTEGER, which is what it is with any lists
-  none_of_standard : (k : typing.Standard) (lists : typed.Lists) → (k ≡ typing.MaxInteger → ⊥) → begins_with_phrases lists ≡ false → As (translating.a_standard_name k) lists ≡ phrases.Named (at s name)
-  none_of_standard typing.MaxInteger lists differs h = absurd (differs refl)
+  none_of_standard : (k : Standard) (lists : typed.Lists) → (k ≡ standard.MaxInteger → ⊥) → begins_with_phrases lists ≡ false → As (translating.a_standard_name k) lists ≡ phrases.Named (at s name)
+  none_of_standard standard.MaxInteger lists differs h = absurd (differs refl)
   none_of_standard k typed.no_lists differs h = refl
   none_of_standard k (typed.list_and (typed.OfPart q start n) rest) differs h = refl
   none_of_standard k (typed.list_and (typed.OfActuals q given) rest) differs h = absurd (cc h)
 
-  greatest : (lists : typed.Lists) → As (translating.a_standard_name typing.MaxInteger) lists ≡ phrases.Constant (value.Integer (pos 2147483647))
+  greatest : (lists : typed.Lists) → As (translating.a_standard_name standard.MaxInteger) lists ≡ phrases.Constant (value.Integer (pos 2147483647))
   greatest lists = refl
 
   module _ (here : Here) (u : Mode) (lists : List TypedList) where
@@ -357,20 +332,11 @@ module _ (s : Scene) (node : Node) (name : ℕ) where
     alone_named (standing.Class c) a (inl h) = none_of_class (map (kind_view s.given) (types_of s.symbols c)) ls (h (numbers_in s))
     alone_named (standing.Array t e) a (inl h) = none_of_array (kind_view s.given t) ls (h (numbers_in s))
     alone_named (standing.Field c i t) a (inl h) = none_of_field (class_place s.given c) i (kind_view s.given t) ls (h (numbers_in s))
-    alone_named (standing.Standard (standard.Function op)) a (inl h) = none_of_standard (standard_name (standard.Function op)) ls (by op) (h (numbers_in s))
-      where
-        by : (o : UnaryOp) → standard_name (standard.Function o) ≡ typing.MaxInteger → ⊥
-        by unary.IsOdd e = cc e
-        by unary.ToBits e = cc e
-        by unary.ToNumber e = cc e
-        by unary.ToCharacter e = cc e
-        by o e = cc e
-    alone_named (standing.Standard (standard.Read true)) a (inl h) = none_of_standard typing.Read ls (λ e. cc e) (h (numbers_in s))
-    alone_named (standing.Standard (standard.Read false)) a (inl h) = none_of_standard typing.ReadOn ls (λ e. cc e) (h (numbers_in s))
-    alone_named (standing.Standard standard.ReadCard) a (inl h) = none_of_standard typing.ReadCard ls (λ e. cc e) (h (numbers_in s))
-    alone_named (standing.Standard (standard.Write true)) a (inl h) = none_of_standard typing.Write ls (λ e. cc e) (h (numbers_in s))
-    alone_named (standing.Standard (standard.Write false)) a (inl h) = none_of_standard typing.WriteOn ls (λ e. cc e) (h (numbers_in s))
-    alone_named (standing.Standard standard.IoControl) a (inl h) = none_of_standard typing.IoControl ls (λ e. cc e) (h (numbers_in s))
+    alone_named (standing.Standard (standard.Function op)) a (inl h) = none_of_standard (standard.Function op) ls (λ e. cc e) (h (numbers_in s))
+    alone_named (standing.Standard (standard.Read on)) a (inl h) = none_of_standard (standard.Read on) ls (λ e. cc e) (h (numbers_in s))
+    alone_named (standing.Standard standard.ReadCard) a (inl h) = none_of_standard standard.ReadCard ls (λ e. cc e) (h (numbers_in s))
+    alone_named (standing.Standard (standard.Write on)) a (inl h) = none_of_standard (standard.Write on) ls (λ e. cc e) (h (numbers_in s))
+    alone_named (standing.Standard standard.IoControl) a (inl h) = none_of_standard standard.IoControl ls (λ e. cc e) (h (numbers_in s))
     alone_named (standing.Standard standard.MaxInteger) a h = greatest ls
     alone_named (standing.Class c) a (inr h) = let e = h.1 in absurd (cc e)
     alone_named (standing.Array t e) a (inr h) = let e = h.1 in absurd (cc e)

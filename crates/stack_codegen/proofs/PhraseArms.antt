@@ -19,7 +19,7 @@ use Rattle.algolw_typing.specs.ProgramView.{Numbers, kind_view, numbered}
 use Rattle.stack_code.specs.declared.instructions.Instr.TheVariants as held
 use Rattle.stack_code.specs.declared.instructions.Mode.{Mode}
 use Rattle.stack_code.specs.declared.instructions.Mode.TheVariants as mode
-use Rattle.stack_code.specs.declared.instructions.UnaryOp.TheVariants as unary
+use Rattle.algolw_tree.specs.declared.standard.UnaryOp.TheVariants as unary
 use Rattle.symbol_table.specs.declared.here.Here.{Here}
 use Rattle.symbol_table.specs.Contexts.{Scene, numbers_in}
 use Rattle.symbol_table.specs.Heres.{in_statement}

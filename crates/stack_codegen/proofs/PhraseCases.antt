@@ -22,8 +22,8 @@ use Rattle.stack_code.specs.declared.instructions.Instr.{Instr}
 use Rattle.stack_code.specs.declared.instructions.Instr.TheVariants as held
 use Rattle.stack_code.specs.declared.instructions.Mode.{Mode}
 use Rattle.stack_code.specs.declared.instructions.Mode.TheVariants as mode
-use Rattle.stack_code.specs.declared.instructions.UnaryOp.{UnaryOp}
-use Rattle.stack_code.specs.declared.instructions.UnaryOp.TheVariants as unary
+use Rattle.algolw_tree.specs.declared.standard.UnaryOp.{UnaryOp}
+use Rattle.algolw_tree.specs.declared.standard.UnaryOp.TheVariants as unary
 use Rattle.symbol_table.specs.declared.here.Here.{Here}
 use Rattle.symbol_table.specs.Contexts.{numbers_in}
 use Rattle.symbol_table.specs.Heres.{in_statement}

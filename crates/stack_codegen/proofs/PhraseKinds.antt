@@ -14,13 +14,13 @@ use Rattle.program_meaning.specs.Translating.{is_logical_given, negated, stateme
 use Rattle.phrase_code.specs.Coding as coding
 use Rattle.phrase_code.specs.Marks.{marks}
 use Rattle.compilable_programs.specs.Begun as compilable
-use Rattle.stack_code.specs.CodeView.{CodeFits, Given, InstrFits, class_place, unary_view}
+use Rattle.stack_code.specs.CodeView.{CodeFits, Given, InstrFits, class_place}
 use Rattle.stack_code.specs.declared.instructions.Instr.{Instr}
 use Rattle.stack_code.specs.declared.instructions.Instr.TheVariants as held
 use Rattle.stack_code.specs.declared.instructions.Mode.{Mode}
 use Rattle.stack_code.specs.declared.instructions.Mode.TheVariants as mode
-use Rattle.stack_code.specs.declared.instructions.UnaryOp.{UnaryOp}
-use Rattle.stack_code.specs.declared.instructions.UnaryOp.TheVariants as unary
+use Rattle.algolw_tree.specs.declared.standard.UnaryOp.{UnaryOp}
+use Rattle.algolw_tree.specs.declared.standard.UnaryOp.TheVariants as unary
 use Rattle.symbol_table.specs.declared.here.Here.{Here}
 use Rattle.symbol_table.specs.Contexts.{Scene, coding_context, numbers_in, place_of}
 use Rattle.symbol_table.specs.Heres.{in_statement}
@@ -64,8 +64,8 @@ leaf_done {a} {b} here wanted n k i same stands fits q e = kind_done here wanted
 
 -- ---- an instruction behind a value
 
-pub unary_done : {a b : Emitter} {m : ℕ} (here : Here) (wanted : Mode) (op : UnaryOp) (x : Phrase) → CodesBefore a b here x (held.Unary op) m → CodesPhrase a b here wanted (phrases.Unary (unary_view op) x) m
-unary_done {a} here wanted op x part = codes_as (code_at (scene a) here wanted (next a) (phrases.Unary (unary_view op) x)) (marks x) (λ ts h. refl) refl part
+pub unary_done : {a b : Emitter} {m : ℕ} (here : Here) (wanted : Mode) (op : UnaryOp) (x : Phrase) → CodesBefore a b here x (held.Unary op) m → CodesPhrase a b here wanted (phrases.Unary op x) m
+unary_done {a} here wanted op x part = codes_as (code_at (scene a) here wanted (next a) (phrases.Unary op x)) (marks x) (λ ts h. refl) refl part
 
 pub negated_done : {a b : Emitter} {m : ℕ} (here : Here) (wanted : Mode) (by : Bool) (x : Phrase) → CodesBefore a b here x (held.Unary (negation_by by)) m → CodesPhrase a b here wanted (negated by x) m
 negated_done here wanted true x part = unary_done here wanted unary.Not x part

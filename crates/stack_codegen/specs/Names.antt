@@ -11,8 +11,8 @@ use Rattle.stack_code.specs.declared.instructions.Instr.{Instr}
 use Rattle.stack_code.specs.declared.instructions.Instr.TheVariants as held
 use Rattle.stack_code.specs.declared.instructions.Mode.{Mode}
 use Rattle.symbol_table.specs.declared.here.Here.{Here}
-use Rattle.symbol_table.specs.declared.standings.Standard.{Standard}
-use Rattle.symbol_table.specs.declared.standings.Standard.TheVariants as standard
+use Rattle.algolw_tree.specs.declared.standard.Standard.{Standard}
+use Rattle.algolw_tree.specs.declared.standard.Standard.TheVariants as standard
 use Rattle.symbol_table.specs.declared.standings.Standing.{Standing}
 use Rattle.symbol_table.specs.declared.standings.Standing.TheVariants as standing
 use Rattle.symbol_table.specs.Contexts.{Scene, numbers_in}

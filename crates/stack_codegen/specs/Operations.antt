@@ -6,8 +6,8 @@ use Rattle.value_ops.specs.declared.values.ClassId.{ClassId}
 use Rattle.value_ops.specs.declared.values.SimpleType.TheVariants as simple
 use Rattle.algolw_tree.specs.declared.programs.Gives.{Gives}
 use Rattle.algolw_tree.specs.declared.programs.Gives.TheVariants as gives
-use Rattle.stack_code.specs.declared.instructions.UnaryOp.{UnaryOp}
-use Rattle.stack_code.specs.declared.instructions.UnaryOp.TheVariants as unary
+use Rattle.algolw_tree.specs.declared.standard.UnaryOp.{UnaryOp}
+use Rattle.algolw_tree.specs.declared.standard.UnaryOp.TheVariants as unary
 use Rattle.program_meaning.specs.Phrases as phrases
 use Rattle.program_meaning.specs.Phrases.{Phrase}
 use Rattle.phrase_code.specs.Coding.{◌▸◌}

@@ -12,11 +12,11 @@ use crate::lists::{
     ListPlan, ListUse, emit_parts_of_given, emit_with_list, first_list, phrase_count,
 };
 use crate::phrases::emit_before;
-use algolw_tree::{Node, TypedActual, TypedList, TypedListKind};
+use algolw_tree::{Node, Standard, TypedActual, TypedList, TypedListKind};
 use code_emitter::Emitter;
 use stack_code::{Constant, Instr, Mode};
 use std::alloc::AllocError;
-use symbol_table::{Here, Standard, Standing};
+use symbol_table::{Here, Standing};
 use value_ops::SimpleType;
 
 /// How long a string of a type is.

@@ -1,45 +1,47 @@
 -- A table in which nothing is declared but what every deck has.
-use Rattle.std.proofs.Common.{◌≡◌, ℕ, zero, suc, ◌+◌, ◌-◌, ◌<◌, ◌≤◌, List, [], ◌∷◌, ◌++◌, length, replicate, true, false, refl, sym, ap, ◌∙◌, subst, arith, append_assoc, slice_index_or}
+use Rattle.std.proofs.Common.{◌≡◌, ℕ, zero, suc, ◌+◌, ◌-◌, ◌<◌, ◌≤◌, ◌==◌, List, [], ◌∷◌, ◌++◌, length, replicate, Bool, true, false, refl, sym, ap, ◌∙◌, subst, arith, append_assoc, slice_index_or}
+use Rattle.std.proofs.lemmas.Bool.{eqb-true, eq-eqb, false_from_ne_true}
 use Rattle.std.proofs.lemmas.List.{length-append}
 use Rattle.std.proofs.lemmas.List.Elements.{All-nil}
-use Rattle.stack_code.specs.declared.instructions.UnaryOp.TheVariants as unary
-use Rattle.symbol_table.specs.declared.standings.Standard.TheVariants as standard
+use Rattle.algolw_tree.specs.Standards.{StandardNames, standard_table}
 use Rattle.symbol_table.specs.declared.standings.Standing.{Standing}
 use Rattle.symbol_table.specs.declared.standings.Standing.TheVariants as standing
-use Rattle.symbol_table.specs.Standings.{IsTable, Names, every_name, standing_of}
-use Rattle.symbol_table.proofs.Declared.{far_from}
+use Rattle.symbol_table.specs.Standings.{IsTable, Names, every_name, names_from, standard_count, standing_of}
 
 -- what every deck has, in order
+abbrev standings_of : StandardNames → List Standing
+standings_of [] = []
+standings_of (x ∷ names) = standing.Standard x.1 ∷ standings_of names
+
 abbrev pub every_standing : List Standing
-every_standing =
-    standing.Standard (standard.Function unary.IsOdd) ∷ standing.Standard (standard.Function unary.ToBits) ∷ standing.Standard (standard.Function unary.ToNumber)
-    ∷ standing.Standard (standard.Function unary.ToCharacter) ∷ standing.Standard (standard.Function unary.ToCode) ∷ standing.Standard (standard.Read true)
-    ∷ standing.Standard (standard.Read false) ∷ standing.Standard standard.ReadCard ∷ standing.Standard (standard.Write true) ∷ standing.Standard (standard.Write false)
-    ∷ standing.Standard standard.IoControl ∷ standing.Standard standard.MaxInteger ∷ []
+every_standing = standings_of standard_table
 
 unknown_there : (k n : ℕ) → slice_index_or (replicate k standing.Unknown) n standing.Unknown ≡ standing.Unknown
 unknown_there zero n = refl
 unknown_there (suc k) zero = refl
 unknown_there (suc k) (suc n) = unknown_there k n
 
+-- the first of names, and those behind it
+at_first : (m n : ℕ) (s : Standing) (names : Names) → m ≡ n → s ≡ standing_of ((m, s) ∷ names) n
+at_first m n s names e = sym (ap {B = Standing} (λ (b : Bool). elim b [ true ↦ s | false ↦ standing_of names n ]) (eq-eqb m n e))
+
+past_first : (m n : ℕ) (s : Standing) (names : Names) → m < n → standing_of names n ≡ standing_of ((m, s) ∷ names) n
+past_first m n s names l = sym (ap {B = Standing} (λ (b : Bool). elim b [ true ↦ s | false ↦ standing_of names n ]) (false_from_ne_true (m == n) (λ q. let same : m ≡ n = eqb-true m n q in omega arith)))
+
+begun_from : (first : ℕ) (names : StandardNames) (k n : ℕ) → slice_index_or (standings_of names ++ replicate k standing.Unknown) n standing.Unknown ≡ standing_of (names_from first names) (first + n)
+begun_from first [] k n = unknown_there k n
+begun_from first (x ∷ names) k zero = at_first first (first + 0) (standing.Standard x.1) (names_from (suc first) names) (omega arith)
+begun_from first (x ∷ names) k (suc n) =
+    let next : suc first + n ≡ first + suc n = omega arith in
+    begun_from (suc first) names k n ∙ ap (standing_of (names_from (suc first) names)) next
+    ∙ past_first first (first + suc n) (standing.Standard x.1) (names_from (suc first) names) (omega arith)
+
 begun_with : (k n : ℕ) → slice_index_or (every_standing ++ replicate k standing.Unknown) n standing.Unknown ≡ standing_of every_name n
-begun_with k zero = refl
-begun_with k (suc zero) = refl
-begun_with k (suc (suc zero)) = refl
-begun_with k (suc (suc (suc zero))) = refl
-begun_with k (suc (suc (suc (suc zero)))) = refl
-begun_with k (suc (suc (suc (suc (suc zero))))) = refl
-begun_with k (suc (suc (suc (suc (suc (suc zero)))))) = refl
-begun_with k (suc (suc (suc (suc (suc (suc (suc zero))))))) = refl
-begun_with k (suc (suc (suc (suc (suc (suc (suc (suc zero)))))))) = refl
-begun_with k (suc (suc (suc (suc (suc (suc (suc (suc (suc zero))))))))) = refl
-begun_with k (suc (suc (suc (suc (suc (suc (suc (suc (suc (suc zero)))))))))) = refl
-begun_with k (suc (suc (suc (suc (suc (suc (suc (suc (suc (suc (suc zero))))))))))) = refl
-begun_with k (suc (suc (suc (suc (suc (suc (suc (suc (suc (suc (suc (suc n)))))))))))) = unknown_there k n ∙ sym (far_from (suc (suc (suc (suc (suc (suc (suc (suc (suc (suc (suc (suc n)))))))))))) (omega arith))
+begun_with k n = let same : 0 + n ≡ n = omega arith in begun_from 0 standard_table k n ∙ ap (standing_of every_name) same
 
 pub begun_table : (now : List Standing) (before : Names) (k : ℕ) → before ≡ [] → now ≡ every_standing ++ replicate k standing.Unknown → IsTable now before
 begun_table now before k e h = subst (λ (b : Names). IsTable now b) (sym e) (record {
-  standard = let n : length now ≡ 12 + length (replicate k standing.Unknown) = ap length h ∙ length-append every_standing (replicate k standing.Unknown) in omega (arith, n);
+  standard = let n : length now ≡ standard_count + length (replicate k standing.Unknown) = ap length h ∙ length-append every_standing (replicate k standing.Unknown) in omega (arith, n);
   numbered = All-nil (λ (x : ℕ × Standing). x.0 < length now);
   first = λ n l. ap (λ (xs : List Standing). slice_index_or xs n standing.Unknown) h ∙ begun_with k n;
 })
@@ -49,9 +51,9 @@ one_more_unknown zero = refl
 one_more_unknown (suc k) = ap (λ xs. standing.Unknown ∷ xs) (one_more_unknown k)
 
 -- a name more that stands for nothing
-pub begun_more : (now more : List Standing) → 12 ≤ length now → now ≡ every_standing ++ replicate (length now - 12) standing.Unknown → more ≡ now ++ standing.Unknown ∷ [] → more ≡ every_standing ++ replicate (length more - 12) standing.Unknown
+pub begun_more : (now more : List Standing) → standard_count ≤ length now → now ≡ every_standing ++ replicate (length now - standard_count) standing.Unknown → more ≡ now ++ standing.Unknown ∷ [] → more ≡ every_standing ++ replicate (length more - standard_count) standing.Unknown
 begun_more now more l e h =
     let n : length more ≡ length now + 1 = ap length h ∙ length-append now (standing.Unknown ∷ []) in
-    let next : suc (length now - 12) ≡ length more - 12 = omega (arith, n) in
-    h ∙ ap (λ xs. xs ++ standing.Unknown ∷ []) e ∙ append_assoc every_standing (replicate (length now - 12) standing.Unknown) (standing.Unknown ∷ [])
-    ∙ ap (λ xs. every_standing ++ xs) (one_more_unknown (length now - 12) ∙ ap (λ k. replicate k standing.Unknown) next)
+    let next : suc (length now - standard_count) ≡ length more - standard_count = omega (arith, n) in
+    h ∙ ap (λ xs. xs ++ standing.Unknown ∷ []) e ∙ append_assoc every_standing (replicate (length now - standard_count) standing.Unknown) (standing.Unknown ∷ [])
+    ∙ ap (λ xs. every_standing ++ xs) (one_more_unknown (length now - standard_count) ∙ ap (λ k. replicate k standing.Unknown) next)

@@ -4,9 +4,10 @@ use Rattle.std.specs.List.{All, AllByRecursion}
 use Rattle.std.proofs.lemmas.Bool.{eqb-true, eq-eqb, false_from_ne_true, false≢true}
 use Rattle.std.proofs.lemmas.List.{get_or-set_other, get_or-set_same, length-drop, length-reverse, length-set, reverse-append, set-get_or, set-set}
 use Rattle.std.proofs.lemmas.List.Elements.{All-head, All-push, All-tail, All-weaker}
+use Rattle.algolw_tree.specs.Standards.{StandardNames, standard_table}
 use Rattle.symbol_table.specs.declared.standings.Standing.{Standing}
 use Rattle.symbol_table.specs.declared.standings.Standing.TheVariants as standing
-use Rattle.symbol_table.specs.Standings.{IsTable, Names, TableView, every_name, names_declared, standing_of, table_view, taken_back}
+use Rattle.symbol_table.specs.Standings.{IsTable, Names, TableView, every_name, names_declared, names_from, standard_count, standing_of, table_view, taken_back}
 
 -- a declaration of another name is passed over
 skip : (k n : ℕ) (s : Standing) (names : Names) → k < n → standing_of names n ≡ standing.Unknown → standing_of ((k, s) ∷ names) n ≡ standing.Unknown
@@ -16,9 +17,13 @@ standing_past : (names : Names) (n : ℕ) → AllByRecursion (λ (x : ℕ × Sta
 standing_past [] n a = refl
 standing_past (x ∷ names) n a = skip x.0 n x.1 names a.0 (standing_past names n a.1)
 
+names_before : (first : ℕ) (names : StandardNames) (n : ℕ) → first + length names ≤ n → AllByRecursion (λ (x : ℕ × Standing). x.0 < n) (names_from first names)
+names_before first [] n l = tt
+names_before first (x ∷ names) n l = (omega (arith, l), names_before (suc first) names n (omega (arith, l)))
+
 -- a number that the names of every deck don't have
-pub far_from : (n : ℕ) → 12 ≤ n → standing_of every_name n ≡ standing.Unknown
-far_from n l = standing_past every_name n (omega (arith, l), (omega (arith, l), (omega (arith, l), (omega (arith, l), (omega (arith, l), (omega (arith, l), (omega (arith, l), (omega (arith, l), (omega (arith, l), (omega (arith, l), (omega (arith, l), (omega (arith, l), tt))))))))))))
+pub far_from : (n : ℕ) → standard_count ≤ n → standing_of every_name n ≡ standing.Unknown
+far_from n l = standing_past every_name n (names_before 0 standard_table n (omega (arith, l)))
 
 -- the standing of a number that the table has
 pub found : (now : List Standing) (bs : Names) (n : ℕ) → n < length now → slice_index_or (taken_back now bs) n standing.Unknown ≡ standing_of every_name n → standing_of (names_declared now bs every_name) n ≡ slice_index_or now n standing.Unknown
@@ -32,7 +37,7 @@ found now (x ∷ bs) n l e = go (found (slice_set now x.0 x.1) bs n (subst (λ k
         ih ∙ get_or-set_other now x.0 n x.1 standing.Unknown other
 
 -- a number that it hasn't stands for nothing
-pub not_found : (now : List Standing) (bs : Names) (n : ℕ) → 12 ≤ n → All (λ (x : ℕ × Standing). x.0 < n) bs → standing_of (names_declared now bs every_name) n ≡ standing.Unknown
+pub not_found : (now : List Standing) (bs : Names) (n : ℕ) → standard_count ≤ n → All (λ (x : ℕ × Standing). x.0 < n) bs → standing_of (names_declared now bs every_name) n ≡ standing.Unknown
 not_found now [] n l below = far_from n l
 not_found now (x ∷ bs) n l below = go (not_found (slice_set now x.0 x.1) bs n l (All-tail (λ (y : ℕ × Standing). y.0 < n) x bs below)) (x.0 == n) refl
   where
@@ -64,7 +69,7 @@ one_more now before name s l =
 
 pub one_more_table : (now : List Standing) (before : Names) (name : ℕ) (s : Standing) → name < length now → IsTable now before → IsTable (slice_set now name s) (before ++ (name, slice_index_or now name standing.Unknown) ∷ [])
 one_more_table now before name s l h = record {
-  standard = subst (λ k. 12 ≤ k) (sym (length-set now name s)) h.standard;
+  standard = subst (λ k. standard_count ≤ k) (sym (length-set now name s)) h.standard;
   numbered = subst (λ k. All (λ (x : ℕ × Standing). x.0 < k) (before ++ (name, slice_index_or now name standing.Unknown) ∷ [])) (sym (length-set now name s)) (All-push (λ (x : ℕ × Standing). x.0 < length now) before (name, slice_index_or now name standing.Unknown) h.numbered l);
   first = λ n below.
       subst (λ bs. slice_index_or (taken_back (slice_set now name s) bs) n standing.Unknown ≡ standing_of every_name n) (sym (last_first before (name, slice_index_or now name standing.Unknown)))
@@ -98,7 +103,7 @@ standing_found now before n h l = found now (reverse before) n l (h.first n l)
 pub standing_far : (now : List Standing) (before : Names) (n : ℕ) → IsTable now before → length now ≤ n → standing_of (table_view now before).names n ≡ standing.Unknown
 standing_far now before n h l =
     let below : All (λ (x : ℕ × Standing). x.0 < n) (reverse before) = all_reversed (λ (x : ℕ × Standing). x.0 < n) before (All-weaker (λ (x : ℕ × Standing). x.0 < length now) (λ (x : ℕ × Standing). x.0 < n) (λ x less. omega (arith, less, l)) before h.numbered) in
-    not_found now (reverse before) n (let many : 12 ≤ length now = h.standard in omega (arith, many, l)) below
+    not_found now (reverse before) n (let many : standard_count ≤ length now = h.standard in omega (arith, many, l)) below
 
-pub length-names : (now : List Standing) (before : Names) → length (table_view now before).names ≡ length before + 12
+pub length-names : (now : List Standing) (before : Names) → length (table_view now before).names ≡ length before + standard_count
 length-names now before = let all = length-names_declared now (reverse before) every_name in let as_many = length-reverse before in omega (arith, all, as_many)

@@ -20,7 +20,7 @@ use Rattle.symbol_table.specs.declared.here.Here.{Here}
 use Rattle.symbol_table.specs.declared.standings.Standing.{Standing}
 use Rattle.symbol_table.specs.declared.standings.Standing.TheVariants as standing
 use Rattle.symbol_table.specs.Standings.{Names, standing_of}
-use Rattle.symbol_table.specs.Contexts.{declared_for, stand_for, IsOnce, Scene, SceneFits, StandingFits, coding_context, declared_by, known_and, knowns, numbers_in, phrase_context, place_of, stand, stand_and, stand_by, standard_name, stands}
+use Rattle.symbol_table.specs.Contexts.{declared_for, stand_for, IsOnce, Scene, SceneFits, StandingFits, coding_context, declared_by, known_and, knowns, numbers_in, phrase_context, place_of, stand, stand_and, stand_by, stands}
 use Rattle.symbol_table.specs.Symbols.{formals_of, types_of}
 use Rattle.symbol_table.proofs.Places.{numbered_place, other_number}
 
@@ -69,7 +69,7 @@ alone_known : (x : translating.Known) (p : Place) (more : List translating.Known
 alone_known x p more u = ap (λ (r : translating.Declared). elim (is_place x.place p) [ true ↦ x.is | false ↦ r ]) u
 
 known_past : (s : Scene) (q p : Place) (x : Standing) (more : List translating.Known) → is_place q p ≡ false → translating.declared_at (known_and s q x more) p ≡ translating.declared_at more p
-known_past s q p (standing.Standard n) more o = past_known (record { place = q; is = translating.a_standard_name (standard_name n) }) p more o
+known_past s q p (standing.Standard n) more o = past_known (record { place = q; is = translating.a_standard_name n }) p more o
 known_past s q p (standing.Variable t e) more o = past_known (record { place = q; is = translating.a_variable (kind_view s.given t) }) p more o
 known_past s q p (standing.NameFormal t e) more o = past_known (record { place = q; is = translating.a_variable (kind_view s.given t) }) p more o
 known_past s q p (standing.Control e) more o = past_known (record { place = q; is = translating.a_control }) p more o
@@ -82,7 +82,7 @@ known_past s q p standing.Unknown more o = refl
 known_past s q p (standing.Label e target) more o = refl
 
 known_alone : (s : Scene) (p : Place) (x : Standing) (more : List translating.Known) → translating.declared_at more p ≡ translating.unknown → translating.declared_at (known_and s p x more) p ≡ declared_by s p x
-known_alone s p (standing.Standard n) more u = alone_known (record { place = p; is = translating.a_standard_name (standard_name n) }) p more u
+known_alone s p (standing.Standard n) more u = alone_known (record { place = p; is = translating.a_standard_name n }) p more u
 known_alone s p (standing.Variable t e) more u = alone_known (record { place = p; is = translating.a_variable (kind_view s.given t) }) p more u
 known_alone s p (standing.NameFormal t e) more u = alone_known (record { place = p; is = translating.a_variable (kind_view s.given t) }) p more u
 known_alone s p (standing.Control e) more u = alone_known (record { place = p; is = translating.a_control }) p more u
@@ -169,7 +169,7 @@ stand_by_is s ts p (standing.Label e target) = one_there p (Some (stand p kinds.
 
 pub declared_by_is : (s : Scene) (p : Place) (x : Standing) → declared_by s p x ≡ declared_for s x
 declared_by_is s p standing.Unknown = refl
-declared_by_is s p (standing.Standard n) = one_there p (translating.a_standard_name (standard_name n)) translating.unknown
+declared_by_is s p (standing.Standard n) = one_there p (translating.a_standard_name n) translating.unknown
 declared_by_is s p (standing.Variable t e) = one_there p (translating.a_variable (kind_view s.given t)) translating.unknown
 declared_by_is s p (standing.NameFormal t e) = one_there p (translating.a_variable (kind_view s.given t)) translating.unknown
 declared_by_is s p (standing.Control e) = one_there p translating.a_control translating.unknown

@@ -1,6 +1,6 @@
 -- Before anything is declared but what every deck has.
-use Rattle.std.proofs.Common.{◌≡◌, ◌≢◌, ℕ, zero, suc, ◌<◌, ◌≤◌, ◌==◌, List, [], ◌∷◌, ◌++◌, length, map, max, replicate, Option, Some, None, Bool, true, false, not, ◌&&◌, ◌||◌, ◌⊎◌, inl, inr, refl, sym, ap, ◌∙◌, subst, append_assoc, arith, slice_index_or, slice_set}
-use Rattle.std.specs.List.{All}
+use Rattle.std.proofs.Common.{◌≡◌, ◌≢◌, ℕ, zero, suc, ◌+◌, ◌<◌, ◌≤◌, ◌==◌, List, [], ◌∷◌, ◌++◌, length, map, max, replicate, Option, Some, None, Bool, true, false, not, ◌&&◌, ◌||◌, ◌⊎◌, inl, inr, refl, sym, ap, ◌∙◌, subst, append_assoc, arith, slice_index_or, slice_set}
+use Rattle.std.specs.List.{All, AllByRecursion}
 use Rattle.std.proofs.Math.Path.{fun_ext}
 use Rattle.std.proofs.lemmas.Bool.{eqb-true, eq-eqb, false≢true}
 use Rattle.std.proofs.lemmas.List.{get_or-set_other, get_or-set_same, length-append, length-map, length-replicate, length-set}
@@ -8,6 +8,7 @@ use Rattle.std.proofs.lemmas.List.Elements.{All-cons, All-from_recursion, All-he
 use Rattle.value_ops.specs.declared.places.Place.{Place}
 use Rattle.value_ops.specs.declared.values.ClassId.{ClassId}
 use Rattle.record_classes.specs.Classes.{Class as TableClass, Classes, class_of}
+use Rattle.algolw_tree.specs.Standards.{StandardNames, standard_table}
 use Rattle.algolw_tree.specs.declared.programs.NameInfo.{NameInfo}
 use Rattle.algolw_tree.specs.declared.programs.Program.{Program}
 use Rattle.algolw_typing.specs.Naming.{Class}
@@ -25,8 +26,8 @@ use Rattle.stack_code.specs.CodeView.{FormalFits, Given, KindFits, class_place}
 use Rattle.stack_code.specs.declared.heads.CodedName.{CodedName}
 use Rattle.symbol_table.specs.declared.standings.Standing.{Standing}
 use Rattle.symbol_table.specs.declared.standings.Standing.TheVariants as standing
-use Rattle.symbol_table.specs.Contexts.{AreFresh, IsNumbered, IsOnce, Scene, SceneFits, StandingFits, coding_context, info_of, knowns, phrase_context, numbers_in, place_of, places_of, standard_name}
-use Rattle.symbol_table.specs.Standings.{Names, every_name}
+use Rattle.symbol_table.specs.Contexts.{AreFresh, IsNumbered, IsOnce, Scene, SceneFits, StandingFits, coding_context, info_of, knowns, phrase_context, numbers_in, place_of, places_of}
+use Rattle.symbol_table.specs.Standings.{Names, every_name, names_from, standard_count}
 use Rattle.symbol_table.specs.Symbols.{class_at, class_numbers, classes_set, only_standard}
 use Rattle.symbol_table.proofs.Fresh.{apart_between, apart_right, info_places, or_false}
 use Rattle.symbol_table.proofs.Places.{has_numbered, in_range, numbered_place, other_place, same_number}
@@ -62,9 +63,12 @@ once_differ (x ∷ names) e =
     let h = both_true (differs x.0 names) (all_differ names) e in
     (each_differs x.0 names h.0, once_differ names h.1)
 
-every_fits : (s : Scene) → 12 ≤ length s.given.names → All (λ (x : ℕ × Standing). (x.0 < length s.given.names) × StandingFits s x.1) every_name
-every_fits s l = All-from_recursion (λ (x : ℕ × Standing). (x.0 < length s.given.names) × StandingFits s x.1) every_name
-    ((omega arith, tt), ((omega arith, tt), ((omega arith, tt), ((omega arith, tt), ((omega arith, tt), ((omega arith, tt), ((omega arith, tt), ((omega arith, tt), ((omega arith, tt), ((omega arith, tt), ((omega arith, tt), ((omega arith, tt), tt))))))))))))
+every_from : (s : Scene) (n : ℕ) (names : StandardNames) → n + length names ≤ length s.given.names → AllByRecursion (λ (x : ℕ × Standing). (x.0 < length s.given.names) × StandingFits s x.1) (names_from n names)
+every_from s n [] l = tt
+every_from s n (x ∷ names) l = ((omega (arith, l), tt), every_from s (suc n) names (omega (arith, l)))
+
+every_fits : (s : Scene) → standard_count ≤ length s.given.names → All (λ (x : ℕ × Standing). (x.0 < length s.given.names) × StandingFits s x.1) every_name
+every_fits s l = All-from_recursion (λ (x : ℕ × Standing). (x.0 < length s.given.names) × StandingFits s x.1) every_name (every_from s 0 standard_table (omega (arith, l)))
 
 -- ---- the numbers of classes
 
@@ -166,7 +170,7 @@ module _ (p : Program) (x : TypedProgram) (may : IsCompilable p x) (g : Given) (
   names_same : (numbers_in first).names ≡ name_places x
   names_same = names
 
-  many : 12 ≤ length g.names
+  many : standard_count ≤ length g.names
   many =
       let n = length-map g.names (λ (y : CodedName). y.place) in
       let m : length (map (λ (y : CodedName). y.place) g.names) ≡ length (standard_places ++ may.others) = ap length (names ∙ may.standard) in
@@ -186,7 +190,7 @@ module _ (p : Program) (x : TypedProgram) (may : IsCompilable p x) (g : Given) (
   begun_fits =
       let apart = subst AreApart (sym names) may.apart in
       let somewhere = subst (λ (places : List Place). has places nowhere ≡ false) (sym names) may.somewhere in
-      let counted : max 12 (length g.names) ≡ length g.names = let l = many in omega arith in
+      let counted : max standard_count (length g.names) ≡ length g.names = let l = many in omega arith in
       let here : length (numbers_in first).names ≡ length g.names = length-map g.names (λ (y : CodedName). y.place) in
       let all : length (class_numbers (length g.names) p.class_names.items) ≡ length g.names = length-classes_set (replicate (length g.names) None) 0 p.class_names.items ∙ length-replicate (length g.names) None in
       record {
@@ -218,7 +222,7 @@ module _ (p : Program) (x : TypedProgram) (may : IsCompilable p x) (g : Given) (
 -- the names of every deck, where they stand at these places
 abbrev known_at : (ℕ → Place) → Names → List translating.Known
 known_at f [] = []
-known_at f ((n, standing.Standard k) ∷ names) = record { place = f n; is = translating.a_standard_name (standard_name k) } ∷ known_at f names
+known_at f ((n, standing.Standard k) ∷ names) = record { place = f n; is = translating.a_standard_name k } ∷ known_at f names
 known_at f (x ∷ names) = known_at f names
 
 -- phrases know the names of every deck

@@ -1,6 +1,6 @@
 -- Classes and standard names stand where those of their numbers do, in a block, in a body and in the body of a FOR too.
-use Rattle.std.proofs.Common.{◌≡◌, ℕ, ◌+◌, ◌==◌, List, [], ◌∷◌, ◌++◌, length, Option, Some, None, Bool, true, false, refl, sym, ap, ◌∙◌, subst}
-use Rattle.std.specs.List.{All}
+use Rattle.std.proofs.Common.{◌≡◌, ℕ, suc, ◌+◌, ◌==◌, List, [], ◌∷◌, ◌++◌, length, Option, Some, None, Bool, true, false, not, ◌&&◌, ◌||◌, refl, sym, ap, ◌∙◌, subst}
+use Rattle.std.specs.List.{All, AllByRecursion}
 use Rattle.std.specs.declared.vec.Vec.{Vec}
 use Rattle.std.specs.declared.alloc.Global.{Global}
 use Rattle.std.proofs.lemmas.Bool.{eqb-true}
@@ -11,14 +11,18 @@ use Rattle.value_ops.specs.declared.values.SimpleType.{SimpleType}
 use Rattle.algolw_tree.specs.declared.programs.TypedClass.{TypedClass}
 use Rattle.algolw_tree.specs.declared.programs.TypedDecl.{TypedDecl, Simple, Array', Proc, Class}
 use Rattle.algolw_tree.specs.declared.programs.TypedItem.{TypedItem}
+use Rattle.algolw_tree.specs.declared.standard.Standard.{Standard}
+use Rattle.algolw_tree.specs.declared.standard.Standard.TheVariants as standard
+use Rattle.algolw_tree.specs.Standards.{StandardNames, standard_table}
 use Rattle.algolw_typing.specs.ProgramView.{numbered}
 use Rattle.algolw_typing.specs.Types.{has}
+use Rattle.program_soundness.proofs.Arrays.{both_true}
 use Rattle.program_soundness.proofs.Variables.{some_inj}
 use Rattle.stack_code.specs.CodeView.{class_place}
 use Rattle.stack_code.specs.declared.heads.Formal.{Formal}
 use Rattle.stack_code.specs.declared.heads.FormalType.{FormalType}
 use Rattle.stack_code.specs.declared.heads.FormalType.TheVariants as formal
-use Rattle.compilable_programs.specs.Begun.{standard_procedures}
+use Rattle.compilable_programs.specs.Begun.{is_procedure, standard_procedures}
 use Rattle.compilable_programs.specs.Compiled.{standard_places}
 use Rattle.symbol_table.specs.declared.blocks.Cursor.{Cursor}
 use Rattle.symbol_table.specs.declared.here.Here.{Here}
@@ -26,9 +30,9 @@ use Rattle.symbol_table.specs.declared.standings.Entry.{Entry}
 use Rattle.symbol_table.specs.declared.standings.Standing.{Standing}
 use Rattle.symbol_table.specs.declared.standings.Standing.TheVariants as standing
 use Rattle.symbol_table.specs.Blocks.{all_names, behind, block_names, class_names, decl_names, decls_names, entry_count, entry_names, field_count, field_names, first_cursor, group_names, label_names, named_procedure, procedure_count, procedure_standing}
-use Rattle.symbol_table.specs.Contexts.{Scene, SceneFits, StandsAt, numbers_in, place_of}
+use Rattle.symbol_table.specs.Contexts.{Scene, SceneFits, StandardAt, StandsAt, numbers_in, place_of}
 use Rattle.symbol_table.specs.Parts.{item_labels}
-use Rattle.symbol_table.specs.Standings.{Names, every_name, standing_of}
+use Rattle.symbol_table.specs.Standings.{Names, every_name, names_from, standing_of}
 use Rattle.symbol_table.specs.Symbols.{class_at, formal_names, formal_standing}
 use Rattle.symbol_table.proofs.Places.{numbered_place}
 use Rattle.symbol_table.proofs.Placing.{ClassOf, ClassesOf, IsClassOf}
@@ -98,13 +102,35 @@ module _ (s : Scene) where
       let e : Entry = record { level = level; position = position } in
       All-cons There (f.name, formal_standing f.is e) (formal_names level (position + 1) fs more) (formal_there f.is e (place_of s f.name)) (formals_there level (position + 1) fs more a)
 
-  -- what every deck has
-  pub every_there : (others : List Place) → (numbers_in s).names ≡ standard_places ++ others → All There every_name
-  every_there others e =
-      let at : (n : ℕ) → numbered (standard_places ++ others) n ≡ place_of s n = λ n. ap (λ (places : List Place). numbered places n) (sym e) ∙ numbered_place s n in
-      let procedure : (n : ℕ) → has standard_procedures (numbered (standard_places ++ others) n) ≡ true → has standard_procedures (place_of s n) ≡ true = λ n h. subst (λ (p : Place). has standard_procedures p ≡ true) (at n) h in
-      All-from_recursion There every_name
-      (tt, (tt, (tt, (tt, (tt, (procedure 5 refl, (procedure 6 refl, (procedure 7 refl, (procedure 8 refl, (procedure 9 refl, (procedure 10 refl, (tt, tt))))))))))))
+  -- each procedure of every deck has a number at whose place a procedure stands
+  module _ (others : List Place) (e : (numbers_in s).names ≡ standard_places ++ others) where
+    abbrev is_there : ℕ → Standard → Bool
+    is_there n k = not (is_procedure k) || has standard_procedures (numbered (standard_places ++ others) n)
+
+    abbrev are_there : ℕ → StandardNames → Bool
+    are_there n [] = true
+    are_there n (x ∷ names) = is_there n x.1 && are_there (suc n) names
+
+    at_number : (n : ℕ) → has standard_procedures (numbered (standard_places ++ others) n) ≡ true → has standard_procedures (place_of s n) ≡ true
+    at_number n h = subst (λ (p : Place). has standard_procedures p ≡ true) (ap (λ (places : List Place). numbered places n) (sym e) ∙ numbered_place s n) h
+
+    one_there : (n : ℕ) (k : Standard) → is_there n k ≡ true → StandardAt (place_of s n) k
+    one_there n (standard.Function op) h = tt
+    one_there n standard.MaxInteger h = tt
+    one_there n (standard.Read next) h = at_number n h
+    one_there n standard.ReadCard h = at_number n h
+    one_there n (standard.Write first) h = at_number n h
+    one_there n standard.IoControl h = at_number n h
+
+    names_there : (n : ℕ) (names : StandardNames) → are_there n names ≡ true → AllByRecursion There (names_from n names)
+    names_there n [] h = tt
+    names_there n (x ∷ names) h =
+        let both = both_true (is_there n x.1) (are_there (suc n) names) h in
+        (one_there n x.1 both.0, names_there (suc n) names both.1)
+
+    -- what every deck has
+    pub every_there : All There every_name
+    every_there = All-from_recursion There every_name (names_there 0 standard_table refl)
 
   found_there : (n : ℕ) (names : Names) → All There names → StandsAt s (place_of s n) (standing_of names n)
   found_there n [] a = tt

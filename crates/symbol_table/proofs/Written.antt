@@ -3,13 +3,15 @@ use Rattle.std.proofs.Common.{◌≡◌, ℕ, List, [], ◌∷◌, ◌++◌, map
 use Rattle.value_ops.specs.declared.places.Place.{Place}
 use Rattle.value_ops.specs.declared.values.Value.TheVariants as value
 use Rattle.algolw_tree.specs.declared.programs.NameInfo.{NameInfo}
-use Rattle.algolw_typing.specs.Meanings.{FormalType, Odd, BitString, Number, Code, Decode, Read, ReadOn, ReadCard, Write, WriteOn, IoControl}
+use Rattle.algolw_tree.specs.declared.standard.Standard.TheVariants as standard
+use Rattle.algolw_tree.specs.declared.standard.UnaryOp.TheVariants as unary
+use Rattle.algolw_typing.specs.Meanings.{FormalType}
 use Rattle.algolw_typing.specs.Typed as typed
 use Rattle.algolw_typing.specs.Typed.{At}
 use Rattle.algolw_typing.specs.Types.{Gives, is_place}
 use Rattle.program_meaning.specs.Phrases as phrase
 use Rattle.program_meaning.specs.Phrases.{Phrase, Phrases, Targets, Subscripts, Actuals, Actual, Items, Bounds, Decls, Name, Formal}
-use Rattle.program_meaning.specs.Translating.{Context, Declared, a_class, a_control, a_field, a_procedure, a_procedure_formal, a_standard_name, a_variable, an_array, Known, actual_of, actuals_of, bounds_of, chain_of, decl_of, decls_known, decls_of, declared_at, each_formal, first_of, formals_known, formals_of, function, given_of, is_logical_given, is_variable_node, items_of, kind_of, length_given, length_of, linked, name_at, named_of, names_at, negated, number_of, parts_of, perhaps_of, phrase_of, phrases_of, places_of, signed, statement_at, subscripts_of, targets_of, text_at, type_given, type_of_formal, value_type, written}
+use Rattle.program_meaning.specs.Translating.{Context, Declared, a_class, a_control, a_field, a_procedure, a_procedure_formal, a_standard_name, a_variable, an_array, Known, actual_of, actuals_of, bounds_of, chain_of, decl_of, decls_known, decls_of, declared_at, each_formal, first_of, formals_known, formals_of, given_of, is_logical_given, is_variable_node, items_of, kind_of, length_given, length_of, linked, name_at, named_of, names_at, negated, number_of, parts_of, perhaps_of, phrase_of, phrases_of, places_of, signed, statement_at, subscripts_of, targets_of, text_at, type_given, type_of_formal, value_type, written}
 use Rattle.stack_code.specs.declared.heads.CodedName.{CodedName}
 use Rattle.symbol_table.specs.Contexts.{info_of}
 
@@ -65,7 +67,7 @@ module _ (a b : List NameInfo) (same : (x : Place) → text_at a x ≡ text_at b
     same_kind k p f g st (typed.Goto x) = refl
     same_kind k p f g st (typed.Named x lists) = same_named k p f st x (declared_at k x) lists
     same_kind k p f g st (typed.Negated n) = ap (λ (x : Phrase). negated (is_logical_given g) x) (same_phrase k n)
-    same_kind k p f g st (typed.Abs n) = ap (λ (x : Phrase). phrase.Unary phrase.Absolute x) (same_phrase k n)
+    same_kind k p f g st (typed.Abs n) = ap (λ (x : Phrase). phrase.Unary unary.Absolute x) (same_phrase k n)
     same_kind k p f g st (typed.Signed minus n) = ap (λ (x : Phrase). signed minus x) (same_phrase k n)
     same_kind k p f g st (typed.Chain n links) = same_chain k (is_logical_given g) _ _ (same_phrase k n) links
     same_kind k p f g st (typed.Relation o n m) = two (phrase.Relation o) (same_phrase k n) (same_phrase k m)
@@ -114,17 +116,11 @@ module _ (a b : List NameInfo) (same : (x : Place) → text_at a x ≡ text_at b
     same_named k p f st x (a_class types) typed.no_lists = ap (λ (m : Name). phrase.RecordAlone m (number_of types)) (same_name k x)
     same_named k p f st x (a_field class m t) (typed.list_and (typed.OfActuals q given) rest) =
         same_parts k (length_of t) _ _ (ap (λ (z : Phrases). phrase.Field class m (first_of z)) (same_given k given)) rest
-    same_named k p f st x (a_standard_name Write) (typed.list_and (typed.OfActuals q values) rest) = ap (λ (z : Phrases). phrase.Write (statement_at f st) true z) (same_given k values)
-    same_named k p f st x (a_standard_name WriteOn) (typed.list_and (typed.OfActuals q values) rest) = ap (λ (z : Phrases). phrase.Write (statement_at f st) false z) (same_given k values)
-    same_named k p f st x (a_standard_name Read) (typed.list_and (typed.OfActuals q targets) rest) = ap (λ (z : Targets). phrase.Read (statement_at f st) true z) (same_targets k targets)
-    same_named k p f st x (a_standard_name ReadOn) (typed.list_and (typed.OfActuals q targets) rest) = ap (λ (z : Targets). phrase.Read (statement_at f st) false z) (same_targets k targets)
-    same_named k p f st x (a_standard_name ReadCard) (typed.list_and (typed.OfActuals q targets) rest) = ap (λ (z : Targets). phrase.ReadCard (statement_at f st) z) (same_targets k targets)
-    same_named k p f st x (a_standard_name IoControl) (typed.list_and (typed.OfActuals q given) rest) = ap (λ (z : Phrases). phrase.IoControl (statement_at f st) (first_of z)) (same_given k given)
-    same_named k p f st x (a_standard_name Odd) (typed.list_and (typed.OfActuals q given) rest) = same_parts k 1 _ _ (ap (λ (z : Phrases). function Odd (first_of z)) (same_given k given)) rest
-    same_named k p f st x (a_standard_name BitString) (typed.list_and (typed.OfActuals q given) rest) = same_parts k 1 _ _ (ap (λ (z : Phrases). function BitString (first_of z)) (same_given k given)) rest
-    same_named k p f st x (a_standard_name Number) (typed.list_and (typed.OfActuals q given) rest) = same_parts k 1 _ _ (ap (λ (z : Phrases). function Number (first_of z)) (same_given k given)) rest
-    same_named k p f st x (a_standard_name Code) (typed.list_and (typed.OfActuals q given) rest) = same_parts k 1 _ _ (ap (λ (z : Phrases). function Code (first_of z)) (same_given k given)) rest
-    same_named k p f st x (a_standard_name Decode) (typed.list_and (typed.OfActuals q given) rest) = same_parts k 1 _ _ (ap (λ (z : Phrases). function Decode (first_of z)) (same_given k given)) rest
+    same_named k p f st x (a_standard_name (standard.Function op)) (typed.list_and (typed.OfActuals q given) rest) = same_parts k 1 _ _ (ap (λ (z : Phrases). phrase.Unary op (first_of z)) (same_given k given)) rest
+    same_named k p f st x (a_standard_name (standard.Write on)) (typed.list_and (typed.OfActuals q values) rest) = ap (λ (z : Phrases). phrase.Write (statement_at f st) on z) (same_given k values)
+    same_named k p f st x (a_standard_name (standard.Read on)) (typed.list_and (typed.OfActuals q targets) rest) = ap (λ (z : Targets). phrase.Read (statement_at f st) on z) (same_targets k targets)
+    same_named k p f st x (a_standard_name standard.ReadCard) (typed.list_and (typed.OfActuals q targets) rest) = ap (λ (z : Targets). phrase.ReadCard (statement_at f st) z) (same_targets k targets)
+    same_named k p f st x (a_standard_name standard.IoControl) (typed.list_and (typed.OfActuals q given) rest) = ap (λ (z : Phrases). phrase.IoControl (statement_at f st) (first_of z)) (same_given k given)
     same_named k p f st x d lists = refl
 
     same_parts : (k : List Known) (m : ℕ) (x y : Phrase) → x ≡ y → (lists : typed.Lists) → parts_of (C k) m x lists ≡ parts_of (D k) m y lists

@@ -7,7 +7,8 @@ use Rattle.record_classes.specs.Classes.{class_of}
 use Rattle.algolw_tree.specs.declared.programs.NameInfo.{NameInfo}
 use Rattle.algolw_tree.specs.declared.programs.TypedDecl.{TypedDecl}
 use Rattle.algolw_tree.specs.declared.programs.TypedItem.{TypedItem}
-use Rattle.algolw_typing.specs.Meanings as typing
+use Rattle.algolw_tree.specs.declared.standard.Standard.{Standard}
+use Rattle.algolw_tree.specs.declared.standard.Standard.TheVariants as standard
 use Rattle.algolw_typing.specs.Typed as typed
 use Rattle.algolw_typing.specs.Types.{has}
 use Rattle.algolw_typing.specs.ProgramView.{Numbers, nowhere}
@@ -20,14 +21,10 @@ use Rattle.stack_code.specs.CodeView.{Given, FormalFits, KindFits, KindsFit, cla
 use Rattle.stack_code.specs.Linking.{instruction_at}
 use Rattle.stack_code.specs.declared.heads.CodedName.{CodedName}
 use Rattle.stack_code.specs.declared.heads.Formal.{Formal}
-use Rattle.stack_code.specs.declared.instructions.UnaryOp.{UnaryOp}
-use Rattle.stack_code.specs.declared.instructions.UnaryOp.TheVariants as unary
 use Rattle.compilable_programs.specs.Begun.{standard_procedures}
 use Rattle.compilable_programs.specs.Compiled.{AreApart}
 use Rattle.symbol_table.specs.declared.here.Here.{Here}
 use Rattle.symbol_table.specs.declared.standings.Entry.{Entry}
-use Rattle.symbol_table.specs.declared.standings.Standard.{Standard}
-use Rattle.symbol_table.specs.declared.standings.Standard.TheVariants as standard
 use Rattle.symbol_table.specs.declared.standings.Standing.{Standing}
 use Rattle.symbol_table.specs.declared.standings.Standing.TheVariants as standing
 use Rattle.symbol_table.specs.Standings.{Names}
@@ -72,24 +69,9 @@ abbrev pub coding_context : Scene → List ℕ → Here → coding.Context
 coding_context s ts here = record { names = stands s ts s.symbols.names; level = here.level; count = here.entries }
 
 -- ---- the context of phrases
--- what every deck has, as the rules have it
-abbrev pub standard_name : Standard → typing.Standard
-standard_name (standard.Function unary.IsOdd) = typing.Odd
-standard_name (standard.Function unary.ToBits) = typing.BitString
-standard_name (standard.Function unary.ToNumber) = typing.Number
-standard_name (standard.Function unary.ToCharacter) = typing.Code
-standard_name (standard.Function op) = typing.Decode
-standard_name (standard.Read true) = typing.Read
-standard_name (standard.Read false) = typing.ReadOn
-standard_name standard.ReadCard = typing.ReadCard
-standard_name (standard.Write true) = typing.Write
-standard_name (standard.Write false) = typing.WriteOn
-standard_name standard.IoControl = typing.IoControl
-standard_name standard.MaxInteger = typing.MaxInteger
-
 -- what a name that is declared adds to the context of phrases; a label adds nothing
 abbrev pub known_and : Scene → Place → Standing → List translating.Known → List translating.Known
-known_and s p (standing.Standard n) more = record { place = p; is = translating.a_standard_name (standard_name n) } ∷ more
+known_and s p (standing.Standard n) more = record { place = p; is = translating.a_standard_name n } ∷ more
 known_and s p (standing.Variable t e) more = record { place = p; is = translating.a_variable (kind_view s.given t) } ∷ more
 known_and s p (standing.NameFormal t e) more = record { place = p; is = translating.a_variable (kind_view s.given t) } ∷ more
 known_and s p (standing.Control e) more = record { place = p; is = translating.a_control } ∷ more
@@ -124,18 +106,9 @@ StandingFits s (standing.Class c) = (c.class.0 < length s.given.class_places) ×
 StandingFits s (standing.Field c n t) = (c.0 < length s.given.class_places) × KindFits s.given t
 StandingFits s x = ⊤
 
--- of the operations of one operand these are functions
-abbrev pub IsFunction : UnaryOp → Type 0
-IsFunction unary.IsOdd = ⊤
-IsFunction unary.ToBits = ⊤
-IsFunction unary.ToNumber = ⊤
-IsFunction unary.ToCharacter = ⊤
-IsFunction unary.ToCode = ⊤
-IsFunction op = ⊥
-
--- a standard function is an operation that is one, and a standard procedure stands at a place of these
+-- a standard procedure stands at a place of these
 abbrev pub StandardAt : Place → Standard → Type 0
-StandardAt p (standard.Function op) = IsFunction op
+StandardAt p (standard.Function op) = ⊤
 StandardAt p standard.MaxInteger = ⊤
 StandardAt p n = has standard_procedures p ≡ true
 
@@ -226,7 +199,7 @@ stand_for s ts p (standing.Label e target) = Some (stand p kinds.a_label e (inst
 stand_for s ts p x = None
 
 abbrev pub declared_for : Scene → Standing → translating.Declared
-declared_for s (standing.Standard n) = translating.a_standard_name (standard_name n)
+declared_for s (standing.Standard n) = translating.a_standard_name n
 declared_for s (standing.Variable t e) = translating.a_variable (kind_view s.given t)
 declared_for s (standing.NameFormal t e) = translating.a_variable (kind_view s.given t)
 declared_for s (standing.Control e) = translating.a_control

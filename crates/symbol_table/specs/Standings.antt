@@ -1,12 +1,11 @@
 -- What names stand for, as the contexts of the definitions have it.
-use Rattle.std.specs.Prelude.{◌≡◌, ℕ, ◌==◌, ◌-◌, ◌<◌, ◌≤◌, List, [], ◌∷◌, length, reverse, Option, Some, None, Bool, true, false, slice_index_or, slice_set}
+use Rattle.std.specs.Prelude.{◌≡◌, ℕ, suc, ◌==◌, ◌-◌, ◌<◌, ◌≤◌, List, [], ◌∷◌, length, reverse, Option, Some, None, Bool, true, false, slice_index_or, slice_set}
 use Rattle.std.specs.List.{All}
+use Rattle.algolw_tree.specs.Standards.{StandardNames, standard_table}
 use Rattle.stack_code.specs.declared.instructions.Source.{Source}
 use Rattle.stack_code.specs.declared.instructions.Source.TheVariants as source
-use Rattle.stack_code.specs.declared.instructions.UnaryOp.TheVariants as unary
 use Rattle.symbol_table.specs.declared.here.Here.{Here}
 use Rattle.symbol_table.specs.declared.standings.Entry.{Entry}
-use Rattle.symbol_table.specs.declared.standings.Standard.TheVariants as standard
 use Rattle.symbol_table.specs.declared.standings.Standing.{Standing}
 use Rattle.symbol_table.specs.declared.standings.Standing.TheVariants as standing
 
@@ -21,22 +20,17 @@ abbrev pub standing_of : Names → ℕ → Standing
 standing_of [] n = standing.Unknown
 standing_of (x ∷ names) n = elim (x.0 == n) [ true ↦ x.1 | false ↦ standing_of names n ]
 
+-- names of every deck, the first of which has this number
+abbrev pub names_from : ℕ → StandardNames → Names
+names_from n [] = []
+names_from n (x ∷ names) = (n, standing.Standard x.1) ∷ names_from (suc n) names
+
 -- the names of every deck; the first of them is the newest
 abbrev pub every_name : Names
-every_name =
-    (0, standing.Standard (standard.Function unary.IsOdd))
-    ∷ (1, standing.Standard (standard.Function unary.ToBits))
-    ∷ (2, standing.Standard (standard.Function unary.ToNumber))
-    ∷ (3, standing.Standard (standard.Function unary.ToCharacter))
-    ∷ (4, standing.Standard (standard.Function unary.ToCode))
-    ∷ (5, standing.Standard (standard.Read true))
-    ∷ (6, standing.Standard (standard.Read false))
-    ∷ (7, standing.Standard standard.ReadCard)
-    ∷ (8, standing.Standard (standard.Write true))
-    ∷ (9, standing.Standard (standard.Write false))
-    ∷ (10, standing.Standard standard.IoControl)
-    ∷ (11, standing.Standard standard.MaxInteger)
-    ∷ []
+every_name = names_from 0 standard_table
+
+abbrev pub standard_count : ℕ
+standard_count = length standard_table
 
 -- what names stand for one by one, and what those that are declared stood for before, the newest first, give what is declared
 abbrev pub names_declared : List Standing → Names → Names → Names
@@ -58,7 +52,7 @@ taken_back now (x ∷ before) = taken_back (slice_set now x.0 x.1) before
 
 -- all that is declared has a number of the table, and before it names stood for what they do in every deck
 pub record IsTable (now : List Standing) (before : Names) : Type 0 where
-  pub standard : 12 ≤ length now
+  pub standard : standard_count ≤ length now
   pub numbered : All (λ (x : ℕ × Standing). x.0 < length now) before
   pub first : (n : ℕ) → n < length now → slice_index_or (taken_back now (reverse before)) n standing.Unknown ≡ standing_of every_name n
 

@@ -12,7 +12,7 @@ use Rattle.symbol_table.specs.declared.standings.Procedure.{Procedure}
 use Rattle.symbol_table.specs.declared.standings.Standing.{Standing}
 use Rattle.symbol_table.specs.declared.standings.Standing.TheVariants as standing
 use Rattle.symbol_table.specs.declared.symbols.SymbolMark.{SymbolMark}
-use Rattle.symbol_table.specs.Standings.{Names, every_name}
+use Rattle.symbol_table.specs.Standings.{Names, every_name, standard_count}
 
 -- what is declared, the newest name first; how many names there are; the types of the fields of the classes and the formals of the procedures
 -- that are declared, in order; and the class that each name is
@@ -33,7 +33,7 @@ class_numbers count names = classes_set (replicate count None) 0 names
 
 -- nothing is declared but what every deck has
 abbrev pub only_standard : ℕ → List ℕ → SymbolsView
-only_standard count class_names = record { names = every_name; count = max 12 count; fields = []; formals = []; classes = class_numbers count class_names }
+only_standard count class_names = record { names = every_name; count = max standard_count count; fields = []; formals = []; classes = class_numbers count class_names }
 
 abbrev pub class_at : List (Option ClassId) → ℕ → Option ClassId
 class_at classes name = slice_index_or classes name None

@@ -13,5 +13,5 @@ mod symbols;
 
 pub use blocks::{Cursor, entries_of, entry_count, procedure_count, procedures_of};
 pub use here::{Here, further, number};
-pub use standings::{Class, Entry, Procedure, Standard, Standing};
+pub use standings::{Class, Entry, Procedure, Standing};
 pub use symbols::{SymbolMark, Symbols};

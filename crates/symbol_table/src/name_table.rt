@@ -1,26 +1,10 @@
 ghost use Rattle.std.specs.Prelude.{◌≡◌, ◌∷◌, ◌-◌, ◌<◌, ◌≤◌, IfOk, OnErr, OnOk, drop, length, max};
-ghost use Rattle.symbol_table.specs.Standings.{every_name, standing_of};
+ghost use Rattle.symbol_table.specs.Standings.{every_name, standard_count, standing_of};
 
-use crate::standings::{Standard, Standing};
-use stack_code::UnaryOp;
+use crate::standings::Standing;
+use algolw_tree::STANDARD;
 use std::alloc::{AllocError, Global};
 use std::marker::Model;
-
-/// The names of every deck, in order of place.
-const STANDARD: [Standard; 12] = [
-    Standard::Function(UnaryOp::IsOdd),
-    Standard::Function(UnaryOp::ToBits),
-    Standard::Function(UnaryOp::ToNumber),
-    Standard::Function(UnaryOp::ToCharacter),
-    Standard::Function(UnaryOp::ToCode),
-    Standard::Read { next: true },
-    Standard::Read { next: false },
-    Standard::ReadCard,
-    Standard::Write { first: true },
-    Standard::Write { first: false },
-    Standard::IoControl,
-    Standard::MaxInteger,
-];
 
 /// What each name stands for, by its number.
 #[derive(Drop)]
@@ -45,10 +29,10 @@ impl Model for NameTable {
 impl NameTable {
     /// So many names, of which those of every deck stand for what they are, and the others for nothing.
     pub fn new(alloc: Global, count: usize) -> Result<NameTable, AllocError>
-        ensures { IfOk result (λ t. t ≡ record { names = every_name; count = max 12 count }) }
+        ensures { IfOk result (λ t. t ≡ record { names = every_name; count = max standard_count count }) }
     {
         let mut standings = Vec::with_capacity(alloc, count)?;
-        for standard in STANDARD {
+        for (_, standard) in STANDARD {
             standings.push(Standing::Standard(standard))?;
         }
         while standings.len() < count {
@@ -85,14 +69,14 @@ impl NameTable {
     /// How many are declared, those of every deck among them.
     pub fn declared(&self) -> usize
         ensures all { result ≡ length self.now.names }
-        ensures standard { 12 ≤ result }
+        ensures standard { standard_count ≤ result }
     {
         self.before.len() + STANDARD.len()
     }
 
     /// Takes back all but the first so many that are declared.
     pub fn take_back(&mut self, declared: usize)
-        requires { 12 ≤ declared }
+        requires { standard_count ≤ declared }
         ensures { self.new ≡ record self.old { names = drop (length self.old.names - declared) self.old.names } }
     {
         while self.declared() > declared {
@@ -102,7 +86,7 @@ impl NameTable {
 
     /// Takes the newest declaration back, where it isn't one of every deck.
     fn take_one_back(&mut self)
-        requires { 12 < length self.old.names }
+        requires { standard_count < length self.old.names }
         ensures { self.new ≡ record self.old { names = drop 1 self.old.names } }
     {
         if let Some((name, before)) = self.before.pop() {

@@ -2,7 +2,8 @@ ghost use Rattle.std.specs.Prelude.{◌≡◌};
 ghost use Rattle.symbol_table.specs.Standings as standings;
 
 use crate::here::Here;
-use stack_code::{Source, UnaryOp};
+use algolw_tree::Standard;
+use stack_code::Source;
 use value_ops::{ClassId, SimpleType};
 
 /// Where a variable, an array or a formal stands.
@@ -38,23 +39,6 @@ pub struct Class {
     pub fields: u32,
     /// How many fields it has.
     pub count: u32,
-}
-
-/// A name that is declared in no deck.
-#[derive(Clone, Copy)]
-pub enum Standard {
-    /// A function of one value.
-    Function(UnaryOp),
-    /// `READ`, which begins with the next card, or `READON`.
-    Read { next: bool },
-    /// `READCARD`.
-    ReadCard,
-    /// `WRITE`, which begins a line, or `WRITEON`.
-    Write { first: bool },
-    /// `IOCONTROL`.
-    IoControl,
-    /// `MAXINTEGER`.
-    MaxInteger,
 }
 
 /// What a name stands for.

@@ -1,6 +1,6 @@
 ghost use Rattle.std.specs.Prelude.{◌≡◌, ◌-◌, ◌≤◌, ◌<◌, IfOk, OnOk, Some, None, drop, length, map, take};
 ghost use Rattle.std.specs.List.{All};
-ghost use Rattle.symbol_table.specs.Standings.{standing_of};
+ghost use Rattle.symbol_table.specs.Standings.{standard_count, standing_of};
 ghost use Rattle.symbol_table.specs.Symbols as symbols;
 
 use crate::here::{Here, further, number};
@@ -169,7 +169,7 @@ impl Symbols {
     /// How much is declared by now.
     pub fn mark(&self) -> SymbolMark
         ensures all { result ≡ symbols.mark_of self.now }
-        ensures standard { 12 ≤ result.names }
+        ensures standard { standard_count ≤ result.names }
     {
         SymbolMark {
             names: self.names.declared(),
@@ -180,7 +180,7 @@ impl Symbols {
 
     /// Takes back what is declared behind a mark.
     pub fn take_back(&mut self, mark: SymbolMark)
-        requires { 12 ≤ mark.names }
+        requires { standard_count ≤ mark.names }
         ensures { self.new ≡ symbols.taken_back self.old mark }
     {
         self.names.take_back(mark.names);

@@ -7,8 +7,6 @@ use Rattle.algolw_typing.specs.Meanings as meanings
 use Rattle.algolw_typing.specs.Actuals as actuals
 use Rattle.algolw_typing.specs.Verdicts as verdicts
 use Rattle.typing_rules.specs.declared.verdicts.NoType.{NoType}
-use Rattle.typing_rules.specs.declared.meanings.Standard.{Standard}
-use Rattle.typing_rules.specs.declared.meanings.Standard.TheVariants as the
 use Rattle.typing_rules.specs.declared.meanings.FormalType.{FormalType}
 use Rattle.typing_rules.specs.declared.meanings.FormalType.TheVariants as formal
 use Rattle.typing_rules.specs.declared.meanings.Meaning.{Meaning}
@@ -20,20 +18,6 @@ use Rattle.typing_rules.specs.declared.actuals.Reading.TheVariants as read
 use Rattle.typing_rules.specs.declared.actuals.Wanted.{Wanted}
 use Rattle.typing_rules.specs.declared.actuals.Wanted.TheVariants as wants
 use Rattle.typing_rules.specs.View.{value_type, verdict}
-
-abbrev pub standard : Standard → meanings.Standard
-standard the.Odd = meanings.Odd
-standard the.BitString = meanings.BitString
-standard the.Number = meanings.Number
-standard the.Code = meanings.Code
-standard the.Decode = meanings.Decode
-standard the.Read = meanings.Read
-standard the.ReadOn = meanings.ReadOn
-standard the.ReadCard = meanings.ReadCard
-standard the.Write = meanings.Write
-standard the.WriteOn = meanings.WriteOn
-standard the.IoControl = meanings.IoControl
-standard the.MaxInteger = meanings.MaxInteger
 
 abbrev pub formal_type : FormalType → meanings.FormalType
 formal_type (formal.ByName t) = meanings.by_name (value_type t)
@@ -52,7 +36,7 @@ meaning (name.Class fields) = meanings.a_class (map value_type fields.now)
 meaning (name.Field class t) = meanings.a_field class (value_type t)
 meaning name.Label = meanings.a_label
 meaning name.Control = meanings.a_control
-meaning (name.Standard s) = meanings.a_standard (standard s)
+meaning (name.Standard s) = meanings.a_standard s
 
 abbrev pub part : Part → meanings.Part
 part behind.Star = meanings.a_star

@@ -1,4 +1,5 @@
 ghost use Rattle.std.specs.Prelude.{◌≡◌, ◌∷◌, [], List, IfOk, length, map};
+ghost use Rattle.algolw_tree.specs.Standards as standards;
 ghost use Rattle.algolw_typing.specs.Scopes.{written};
 ghost use Rattle.std.specs.Option.{option_map};
 ghost use Rattle.algolw_typing.specs.Types as types;
@@ -12,38 +13,10 @@ use crate::class_set::ClassSet;
 use crate::conditions::{fault, integer, unless, value};
 use crate::types::{PhraseType, ValueType};
 use crate::verdicts::{NoType, Verdict};
+use algolw_tree::{Basic, Standard, UnaryOp};
 use bumpalo::Bump;
 use std::alloc::AllocError;
 use value_ops::{Diagnostic, Place};
-
-/// A name that is declared in a block round the program.
-#[derive(Clone, Copy)]
-pub enum Standard {
-    /// ODD.
-    Odd,
-    /// BITSTRING.
-    BitString,
-    /// NUMBER.
-    Number,
-    /// CODE.
-    Code,
-    /// DECODE.
-    Decode,
-    /// READ.
-    Read,
-    /// READON.
-    ReadOn,
-    /// READCARD.
-    ReadCard,
-    /// WRITE.
-    Write,
-    /// WRITEON.
-    WriteOn,
-    /// IOCONTROL.
-    IoControl,
-    /// MAXINTEGER.
-    MaxInteger,
-}
 
 /// A formal as calls see it.
 #[derive(Clone, Copy)]
@@ -453,57 +426,57 @@ fn read_card_row<'a>(place: Place, parts: &[Part<'a>]) -> Verdict<'a>
     Ok(PhraseType::Statement)
 }
 
-/// IOCONTROL, ODD, BITSTRING and CODE, at the name: of one INTEGER.
-fn integer_function<'a>(place: Place, parts: &[Part<'a>], gives: PhraseType<'a>) -> Verdict<'a>
-    ensures { verdict result ≡ meanings.integer_function place (map view.part parts.now) (phrase_type gives.entry) }
+/// Whether a value's type is one that operations take.
+fn is_basic<'a>(given: ValueType<'a>, basic: Basic) -> bool
+    ensures { result ≡ meanings.is_basic basic (value_type given.entry) }
+{
+    match basic {
+        Basic::Integer => matches!(given, ValueType::Integer),
+        Basic::Logical => matches!(given, ValueType::Logical),
+        Basic::Bits => matches!(given, ValueType::Bits),
+        Basic::Character => matches!(given, ValueType::Str(1)),
+    }
+}
+
+/// What a function gives.
+fn function_gives<'a>(op: UnaryOp) -> PhraseType<'a>
+    ensures { phrase_type result ≡ types.Simple (meanings.basic_type (standards.gives op)) }
+{
+    PhraseType::Value(match op.gives() {
+        Basic::Integer => ValueType::Integer,
+        Basic::Logical => ValueType::Logical,
+        Basic::Bits => ValueType::Bits,
+        Basic::Character => ValueType::Str(1),
+    })
+}
+
+/// A function or IOCONTROL, at the name: of one value of the type that it takes.
+fn one_value_row<'a>(
+    place: Place,
+    taken: Basic,
+    parts: &[Part<'a>],
+    gives: PhraseType<'a>,
+) -> Verdict<'a>
+    ensures { verdict result ≡ meanings.one_value_row place taken (map view.part parts.now) (phrase_type gives.entry) }
 {
     no_star(place, parts)?;
-    integer(place, one_part(place, parts)?)?;
+    let given = value(place, one_part(place, parts)?)?;
+    unless(is_basic(given, taken), Diagnostic::TYPE_DOES_NOT_FIT, place)?;
     Ok(gives)
-}
-
-/// NUMBER, at the name.
-fn number_row<'a>(place: Place, parts: &[Part<'a>]) -> Verdict<'a>
-    ensures { verdict result ≡ meanings.integer_of place types.is_bits (map view.part parts.now) }
-{
-    no_star(place, parts)?;
-    let given = value(place, one_part(place, parts)?)?;
-    unless(
-        matches!(given, ValueType::Bits),
-        Diagnostic::TYPE_DOES_NOT_FIT,
-        place,
-    )?;
-    Ok(PhraseType::Value(ValueType::Integer))
-}
-
-/// DECODE, at the name.
-fn decode_row<'a>(place: Place, parts: &[Part<'a>]) -> Verdict<'a>
-    ensures { verdict result ≡ meanings.integer_of place meanings.is_character (map view.part parts.now) }
-{
-    no_star(place, parts)?;
-    let given = value(place, one_part(place, parts)?)?;
-    unless(
-        matches!(given, ValueType::Str(1)),
-        Diagnostic::TYPE_DOES_NOT_FIT,
-        place,
-    )?;
-    Ok(PhraseType::Value(ValueType::Integer))
 }
 
 /// A standard procedure or function with a list, at the name.
 pub(crate) fn standard_row<'a>(place: Place, standard: Standard, parts: &[Part<'a>]) -> Verdict<'a>
-    ensures { verdict result ≡ meanings.standard_row place (view.standard standard) (map view.part parts.now) }
+    ensures { verdict result ≡ meanings.standard_row place standard (map view.part parts.now) }
 {
     match standard {
-        Standard::Odd => integer_function(place, parts, PhraseType::Value(ValueType::Logical)),
-        Standard::BitString => integer_function(place, parts, PhraseType::Value(ValueType::Bits)),
-        Standard::Code => integer_function(place, parts, PhraseType::Value(ValueType::Str(1))),
-        Standard::IoControl => integer_function(place, parts, PhraseType::Statement),
-        Standard::Number => number_row(place, parts),
-        Standard::Decode => decode_row(place, parts),
-        Standard::Read | Standard::ReadOn => read_row(place, parts),
+        Standard::Function(op) => one_value_row(place, op.takes(), parts, function_gives(op)),
+        Standard::Read { next: _ } => read_row(place, parts),
         Standard::ReadCard => read_card_row(place, parts),
-        Standard::Write | Standard::WriteOn => write_row(place, parts),
+        Standard::Write { first: _ } => write_row(place, parts),
+        Standard::IoControl => {
+            one_value_row(place, Basic::Integer, parts, PhraseType::Statement)
+        }
         Standard::MaxInteger => fault(place, Diagnostic::NAME_NOT_USED_SO),
     }
 }

@@ -1,6 +1,7 @@
 use Rattle.std.proofs.Common.{◌≡◌, ◌+◌, ◌-◌, ◌∷◌, [], length, ap, ◌∙◌, arith}
 use Rattle.std.proofs.lemmas.List.{length-append}
 use Rattle.symbol_table.specs.declared.standings.Standing.TheVariants as standing
+use Rattle.symbol_table.specs.Standings.{standard_count}
 use Rattle.symbol_table.proofs.Begun.{begun_more, begun_table}
 use Rattle.symbol_table.proofs.name_table.NameTable.new.Goals as goal
 
@@ -15,4 +16,4 @@ loop-standings-preserved c =
     }
 
 pub invariant_of-result : goal.invariant_of-result
-invariant_of-result c = begun_table c.loop-standings.standings.items c.new.result.items (length c.loop-standings.standings.items - 12) c.new.ensures.items c.loop-standings.invariant.begun
+invariant_of-result c = begun_table c.loop-standings.standings.items c.new.result.items (length c.loop-standings.standings.items - standard_count) c.new.ensures.items c.loop-standings.invariant.begun
