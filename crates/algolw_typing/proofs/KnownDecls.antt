@@ -1,5 +1,5 @@
 -- Items, bounds, declarations and blocks are known where the phrases in them are.
-use Rattle.std.proofs.Common.{◌≡◌, ℕ, List, [], ◌∷◌, ◌++◌, Option, Some, None, true}
+use Rattle.std.proofs.Common.{◌≡◌, ℕ, List, [], ◌∷◌, ◌++◌, Option, true}
 use Rattle.value_ops.specs.declared.places.Place.{Place}
 use Rattle.value_ops.specs.declared.places.Diagnostic.{Diagnostic}
 use Rattle.algolw_tree.specs.Tree.{Placed, TypeSpec, Formal, ClassDecl}
@@ -10,8 +10,8 @@ use Rattle.algolw_typing.specs.Rows.{bound_row}
 use Rattle.algolw_typing.specs.Scopes.{Scopes, spec_faults, spec_type, result_faults, result_type, dimension_fault, formal_fault, formal_faults, formal_scope, group_faults, group_names, twice}
 use Rattle.algolw_typing.specs.Typed as typed
 use Rattle.algolw_typing.specs.Typing.{Out, faults, gives, ItemsOut, no_more_items, item_verdict, is_last, has_labels, first_token, item_out, BoundsOut, no_more_bounds, bound_out, DeclOut, DeclsOut, no_more_decls, decl_out, declare_at, simple_out, array_out, procedure_verdict, procedure_out, class_out, block_out, typed_formals, typed_groups}
-use Rattle.algolw_typing.specs.Naming.{Naming, and, nothing, Frame, NamePath, declares, formal_names, fields_of, class_fields, class_naming, uses_of, spec_uses, result_uses, formal_uses}
-use Rattle.algolw_typing.specs.Known.{KnowsType, KnowsDeclared, KnowsFormals, KnowsGroups, KnowsItems, KnowsBounds, KnowsDecls, KnowsDecl, FieldsKnow, ClassesKnow}
+use Rattle.algolw_typing.specs.Naming.{Naming, and, nothing, Frame, NamePath, declares, formal_names, fields_of, class_fields, class_naming}
+use Rattle.algolw_typing.specs.Known.{KnowsType, KnowsDeclared, KnowsFormals, KnowsGroups, KnowsItems, KnowsBounds, KnowsDecls, KnowsDecl, FieldsKnow}
 use Rattle.algolw_typing.proofs.GoodScopes.{NoFaults, none_first, none_two, none_three, none_four}
 use Rattle.algolw_typing.proofs.KnownTypes.{Tells, item_told}
 use Rattle.algolw_typing.proofs.KnownScopes.{PlacesHad, places_two, Around, Reads, reads_known, reads_names, spec_known, result_known}
@@ -61,23 +61,7 @@ bound_fine {classes = classes} p a b more l m n i j k = record {
       record { tree = (s.tree, t.tree, u.tree); fields = fields_both classes l (and m n) s.fields (fields_both classes m n t.fields u.fields) };
 }
 
--- ---- what declarations state, and what the classes among them hold; a use of a name declares no class
-
-uses_no_class : (classes : List Place) (outer : NamePath) (xs : List Placed) → ClassesKnow classes (uses_of outer xs).classes
-uses_no_class classes outer [] = tt
-uses_no_class classes outer (x ∷ xs) = uses_no_class classes outer xs
-
-spec_no_class : (classes : List Place) (outer : NamePath) (spec : TypeSpec) → ClassesKnow classes (spec_uses outer spec).classes
-spec_no_class classes outer (tree.Reference xs) = uses_no_class classes outer xs
-spec_no_class classes outer spec = tt
-
-result_no_class : (classes : List Place) (outer : NamePath) (result : Option TypeSpec) → ClassesKnow classes (result_uses outer result).classes
-result_no_class classes outer None = tt
-result_no_class classes outer (Some spec) = spec_no_class classes outer spec
-
-formals_no_class : (classes : List Place) (outer : NamePath) (fs : List Formal) → ClassesKnow classes (formal_uses outer fs).classes
-formals_no_class classes outer [] = tt
-formals_no_class classes outer (f ∷ fs) = fields_both classes (result_uses outer f.spec) (formal_uses outer fs) (result_no_class classes outer f.spec) (formals_no_class classes outer fs)
+-- ---- what declarations state, and what the classes among them hold
 
 formals_stated : (names classes : List Place) (path : Scopes) (fs : List Formal) → Reads classes path path → PlacesHad names (formal_names fs) → NoFaults (formal_faults path fs) → KnowsFormals names classes (typed_formals path fs)
 formals_stated names classes path [] r k h = tt
@@ -117,20 +101,20 @@ no_more_decls_fine = record { sound = λ h. record { tree = tt; fields = tt } }
 pub decl_fine : {names classes : List Place} (d : DeclOut) (more : DeclsOut) (m n : Naming) → FineDecl names classes d m → FineDecls names classes more n → FineDecls names classes (decl_out d more) (and m n)
 decl_fine d more m n i j = record { sound = λ h. let none = none_two d.inside more.inside h in both m n (i.sound none.0) (j.sound none.1) }
 
-pub simple_fine : {names classes : List Place} {outer : NamePath} {path : Scopes} (spec : TypeSpec) (xs : List Placed) → Around names classes outer path → PlacesHad names xs → FineDecl names classes (simple_out path spec xs) (spec_uses outer spec)
-simple_fine {names = names} {classes = classes} {outer = outer} {path = path} spec xs w k = record { sound = λ h. record { tree = (spec_known classes path path spec (reads_known w) h, declared_known names xs k); fields = spec_no_class classes outer spec } }
+pub simple_fine : {names classes : List Place} {outer : NamePath} {path : Scopes} (spec : TypeSpec) (xs : List Placed) → Around names classes outer path → PlacesHad names xs → FineDecl names classes (simple_out path spec xs) nothing
+simple_fine {names = names} {classes = classes} {outer = outer} {path = path} spec xs w k = record { sound = λ h. record { tree = (spec_known classes path path spec (reads_known w) h, declared_known names xs k); fields = tt } }
 
 pub array_fine : {names classes : List Place} {outer : NamePath} {path : Scopes} (spec : TypeSpec) (xs : List Placed) (n : ℕ) (bounds : BoundsOut) (m : Naming) → Around names classes outer path → PlacesHad names xs → FineBounds names classes bounds m
-    → FineDecl names classes (array_out path spec xs n bounds) (and (spec_uses outer spec) m)
+    → FineDecl names classes (array_out path spec xs n bounds) m
 array_fine {names = names} {classes = classes} {outer = outer} {path = path} spec xs n bounds m w k i = record {
   sound = λ h.
       let none = none_three (spec_faults path spec) (dimension_fault xs n) bounds.inside h in
       let s = i.sound none.2 in
-      record { tree = (spec_known classes path path spec (reads_known w) none.0, declared_known names xs k, s.tree); fields = fields_both classes (spec_uses outer spec) m (spec_no_class classes outer spec) s.fields };
+      record { tree = (spec_known classes path path spec (reads_known w) none.0, declared_known names xs k, s.tree); fields = s.fields };
 }
 
 pub procedure_fine : {names classes : List Place} {outer : NamePath} {path : Scopes} (p : Place) (result : Option TypeSpec) (x : Placed) (fs : List Formal) (body : Out) (frame : Frame) (xs : List Placed) (n : Naming) → Around names classes outer path → has names x.1 ≡ true → PlacesHad names (formal_names fs) → Fine names classes body n
-    → FineDecl names classes (procedure_out path p result x fs body) (and (result_uses outer result) (and (formal_uses outer fs) (and (declares frame xs) n)))
+    → FineDecl names classes (procedure_out path p result x fs body) (and (declares frame xs) n)
 procedure_fine {names = names} {classes = classes} {outer = outer} {path = path} p result x fs body frame xs n w d k i = record {
   sound = λ h.
       let types = result_faults path result ++ formal_faults path fs in
@@ -139,7 +123,7 @@ procedure_fine {names = names} {classes = classes} {outer = outer} {path = path}
       let s = i.sound none.2 in
       record {
         tree = (result_known classes path result (reads_known w) own.0, d, formals_stated names classes path fs (reads_known w) k own.1, s.tree);
-        fields = fields_both classes (result_uses outer result) (and (formal_uses outer fs) n) (result_no_class classes outer result) (fields_both classes (formal_uses outer fs) n (formals_no_class classes outer fs) s.fields);
+        fields = s.fields;
       };
 }
 

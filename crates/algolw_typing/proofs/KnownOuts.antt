@@ -14,7 +14,7 @@ use Rattle.algolw_typing.specs.Actuals.{Reading}
 use Rattle.algolw_typing.specs.Scopes.{Known, class_fault}
 use Rattle.algolw_typing.specs.Typed as typed
 use Rattle.algolw_typing.specs.Typing.{Out, faults, gives, out, leaf, empty_out, negated_out, absolute_out, signed_out, relation_out, meaning_of, target, class_stated, is_out, goto_row, goto_out, Left, right_end, assign_row, uncounted, assign_out, if_out, if_else_out, PhrasesOut, no_outs, out_and, case_value_out, case_do_out, for_verdict, for_until_out, for_step_out, for_list_out, while_out, assert_out, LinksOut, no_more, link_verdict, link_out, chain_out}
-use Rattle.algolw_typing.specs.Naming.{Naming, and, nothing, Frame, declares, used_at}
+use Rattle.algolw_typing.specs.Naming.{Naming, and, nothing, Frame, declares}
 use Rattle.algolw_typing.specs.Known.{KnowsType, KnowsGives, Knows, KnowsKind, KnowsNodes, KnowsLinks, ClassesKnow}
 use Rattle.algolw_typing.proofs.GoodScopes.{NoFaults, none_first, none_two, none_three, none_four}
 use Rattle.algolw_typing.proofs.KnownTypes.{Tells, a_type, a_fault, silence, a_statement, gives_told, part_told, all_parts_told, onward_told, if_told, case_do_told, for_told, while_told, assert_told, link_told, integer_told, relation_told, is_told, assign_told, AllGive, none_gives, gives_and, negated_told, if_else_told, case_value_told}
@@ -103,23 +103,23 @@ target_class : (classes : List Place) (x : Placed) (e : Option (Entry Known)) �
 target_class classes x None k h = absurd h
 target_class classes x (Some e) k h = is_stated classes x e.is.is_class e.place k h
 
-pub is_fine : {names classes : List Place} (p f : Place) (x : Placed) (e : Option (Entry Known)) (a : Out) (m : Naming) (found : Option Place) → FoundIs (IsHad names) e → FoundIs (ClassKnown classes) e → Fine names classes a m → Fine names classes (is_out p f x e a) (and m (used_at x.1 found))
-is_fine {names = names} {classes = classes} p f x e a m found k w i =
-    made {names = names} {classes = classes} (faults a ++ class_fault x e) p f (class_stated (class_fault x e) (meaning_of e) (part (gives a) (is_row p))) (typed.IsClass a.node (target e) x.1) (and m (used_at x.1 found))
+pub is_fine : {names classes : List Place} (p f : Place) (x : Placed) (e : Option (Entry Known)) (a : Out) (m : Naming) → FoundIs (IsHad names) e → FoundIs (ClassKnown classes) e → Fine names classes a m → Fine names classes (is_out p f x e a) m
+is_fine {names = names} {classes = classes} p f x e a m k w i =
+    made {names = names} {classes = classes} (faults a ++ class_fault x e) p f (class_stated (class_fault x e) (meaning_of e) (part (gives a) (is_row p))) (typed.IsClass a.node (target e) x.1) m
     (stated_told (class_fault x e) (meaning_of e) (part (gives a) (is_row p)) (part_told (gives a) (is_row p) (is_told p)))
     (λ h.
     let none = none_two (faults a) (class_fault x e) h in
     let s = i.sound none.0 in
-    record { tree = (s.tree, class_target names x e k none.1, target_class classes x e w none.1); fields = fields_both classes m (used_at x.1 found) s.fields tt })
+    record { tree = (s.tree, class_target names x e k none.1, target_class classes x e w none.1); fields = s.fields })
 
 goto_case : {classes : List Place} (p : Place) (name : List ℕ) (place : Place) (c : Bool) (reading : Reading) (m : Option Meaning) → Tells classes (goto_row p (Some (record { name = name; place = place; is = record { is_class = c; reading = reading; means = m } })))
 goto_case p name place c reading None = silence
 goto_case p name place c reading (Some a_label) = a_statement
 goto_case p name place c reading (Some m) = a_fault
 
-pub goto_fine : {names classes : List Place} (p f : Place) (e : Option (Entry Known)) (found : Option Place) → FoundIs (IsHad names) e → Fine names classes (goto_out p f e) (used_at p found)
-goto_fine p f None found k = record { told = a_fault; sound = λ h. absurd h }
-goto_fine p f (Some e) found k = made [] p f (goto_row p (Some e)) (typed.Goto e.place) (used_at p found) (goto_case p e.name e.place e.is.is_class e.is.reading e.is.means) (λ none. record { tree = k; fields = tt })
+pub goto_fine : {names classes : List Place} (p f : Place) (e : Option (Entry Known)) → FoundIs (IsHad names) e → Fine names classes (goto_out p f e) nothing
+goto_fine p f None k = record { told = a_fault; sound = λ h. absurd h }
+goto_fine p f (Some e) k = made [] p f (goto_row p (Some e)) (typed.Goto e.place) nothing (goto_case p e.name e.place e.is.is_class e.is.reading e.is.means) (λ none. record { tree = k; fields = tt })
 
 -- ---- IF, CASE, FOR, WHILE, ASSERT
 

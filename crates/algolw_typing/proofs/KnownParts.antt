@@ -3,7 +3,6 @@ use Rattle.std.proofs.Common.{ℕ, ℤ, List, ◌++◌, Option, Some, None, Bool
 use Rattle.std.specs.Prelude.{⊤}
 use Rattle.value_ops.specs.declared.places.Place.{Place}
 use Rattle.value_ops.specs.declared.places.Diagnostic.{Diagnostic}
-use Rattle.algolw_tree.specs.Tree.{Placed, TypeSpec, Formal, ClassDecl}
 use Rattle.algolw_tree.specs.Tree as tree
 use Rattle.algolw_typing.specs.Names.{Entry, declared}
 use Rattle.algolw_typing.specs.Types.{ValueType}
@@ -13,7 +12,7 @@ use Rattle.algolw_typing.specs.Actuals.{Wanted, name_read, is_subarray, subarray
 use Rattle.algolw_typing.specs.Scopes.{Known, Scopes}
 use Rattle.algolw_typing.specs.Typed as typed
 use Rattle.algolw_typing.specs.Typing.{Out, faults, meaning_of, target, ListsOut, listed, PartsOut, no_parts, star_and, PartOut, given_and, list_out, part_out, named_out, phrase_given, read_as, name_given, parts_of_kind, subarray_given, array_given, list_given, given, variable_name}
-use Rattle.algolw_typing.specs.Naming.{Naming, and, nothing, used_at}
+use Rattle.algolw_typing.specs.Naming.{Naming, and, nothing}
 use Rattle.algolw_typing.specs.Known.{Knows, KnowsKind, KnowsLists, KnowsActuals}
 use Rattle.algolw_typing.proofs.GoodScopes.{NoFaults, none_first, none_second, none_two}
 use Rattle.algolw_typing.proofs.KnownTypes.{Tells}
@@ -49,15 +48,15 @@ abbrev pub IfLost : Option (Entry Known) → Verdict → Type 0
 IfLost None v = NoFaults (fault_of v) → ⊥
 IfLost (Some e) v = ⊤
 
-pub named_sound : {names classes : List Place} (e : Option (Entry Known)) (l : ListsOut) (p : Place) (found : Option Place) (n : Naming) → FoundIs (IsHad names) e → FineLists names classes l n → NoFaults l.inside
-    → IfFound e (Sound classes (KnowsKind names classes (typed.Named (target e) l.lists)) (and (used_at p found) n))
-named_sound None l p found n k i h = tt
-named_sound (Some e) l p found n k i h = let s = i.sound h in record { tree = (k, s.tree); fields = s.fields }
+pub named_sound : {names classes : List Place} (e : Option (Entry Known)) (l : ListsOut) (n : Naming) → FoundIs (IsHad names) e → FineLists names classes l n → NoFaults l.inside
+    → IfFound e (Sound classes (KnowsKind names classes (typed.Named (target e) l.lists)) n)
+named_sound None l n k i h = tt
+named_sound (Some e) l n k i h = let s = i.sound h in record { tree = (k, s.tree); fields = s.fields }
 
-pub named_fine : {names classes : List Place} (p f : Place) (e : Option (Entry Known)) (l : ListsOut) (found : Option Place) (n : Naming) → FoundIs (IsHad names) e → IfLost e l.verdict → FineLists names classes l n
-    → Fine names classes (named_out p f e l) (and (used_at p found) n)
-named_fine p f None l found n k lost i = record { told = i.told; sound = λ h. absurd (lost (none_second l.inside (fault_of l.verdict) h)) }
-named_fine p f (Some e) l found n k lost i = made l.inside p f l.verdict (typed.Named e.place l.lists) (and (used_at p found) n) i.told (named_sound (Some e) l p found n k i)
+pub named_fine : {names classes : List Place} (p f : Place) (e : Option (Entry Known)) (l : ListsOut) (n : Naming) → FoundIs (IsHad names) e → IfLost e l.verdict → FineLists names classes l n
+    → Fine names classes (named_out p f e l) n
+named_fine p f None l n k lost i = record { told = i.told; sound = λ h. absurd (lost (none_second l.inside (fault_of l.verdict) h)) }
+named_fine p f (Some e) l n k lost i = made l.inside p f l.verdict (typed.Named e.place l.lists) n i.told (named_sound (Some e) l n k i)
 
 -- ---- actuals
 

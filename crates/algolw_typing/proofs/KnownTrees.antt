@@ -8,7 +8,7 @@ use Rattle.algolw_typing.specs.Verdicts.{Verdict, Good, Fault, fault_of}
 use Rattle.algolw_typing.specs.Actuals.{Reading, as_phrases, wanted, behind}
 use Rattle.algolw_typing.specs.Scopes.{Known, Scopes, formal_scope, names_of_block, twice, bound_count, control_scope}
 use Rattle.algolw_typing.specs.Typing.{gives, as_verdict, left_of, link_verdict, use_alone, use_as_base, use_with_list, part_verdict, list_verdict, reading_of, given, item_verdict, then_item, typed_phrase, typed_kind, typed_phrases, typed_links, first_list, more_lists, typed_parts, typed_items, typed_bounds, typed_decls, typed_decl}
-use Rattle.algolw_typing.specs.Naming.{and, nothing, Frame, inside, of_procedure, NamePath, scope_of, decl_names, decls_names, label_names, block_names, formal_names, declares, place_of, use_at, spec_uses, result_uses, formal_uses, naming, kind_naming, phrases_naming, links_naming, lists_naming, actuals_naming, items_naming, bounds_naming, decls_naming, decl_naming}
+use Rattle.algolw_typing.specs.Naming.{and, nothing, Frame, inside, of_procedure, NamePath, scope_of, decl_names, decls_names, label_names, block_names, formal_names, declares, naming, kind_naming, phrases_naming, links_naming, lists_naming, actuals_naming, items_naming, bounds_naming, decls_naming, decl_naming}
 use Rattle.algolw_typing.proofs.GoodScopes.{NoFaults}
 use Rattle.algolw_typing.proofs.GoodBlocks as blocks
 use Rattle.algolw_typing.proofs.KnownTypes.{Tells, a_statement, then_told, as_verdict_told}
@@ -48,7 +48,7 @@ mutual
   kind_known frame outer path w p f (tree.Named x lists) n =
       let e = declared path x in
       let l = lists_naming frame outer lists in
-      named_fine p f e (first_list path p e lists) (place_of (declared outer x)) l (w.had x) (lost_first path p e lists) (first_known frame outer path w p e (w.means x) lists (within_second (use_at outer x p) l n))
+      named_fine p f e (first_list path p e lists) l (w.had x) (lost_first path p e lists) (first_known frame outer path w p e (w.means x) lists n)
   kind_known frame outer path w p f (tree.Negated a) n = negated_fine p f (typed_phrase path a) (naming frame outer a) (phrase_known frame outer path w a n)
   kind_known frame outer path w p f (tree.Abs a) n = absolute_fine p f (typed_phrase path a) (naming frame outer a) (phrase_known frame outer path w a n)
   kind_known frame outer path w p f (tree.Signed minus a) n = signed_fine p f minus (typed_phrase path a) (naming frame outer a) (phrase_known frame outer path w a n)
@@ -64,7 +64,7 @@ mutual
       relation_fine p f op (typed_phrase path a) (typed_phrase path b) l m (phrase_known frame outer path w a (within_first l m n)) (phrase_known frame outer path w b (within_second l m n))
   kind_known frame outer path w p f (tree.IsClass a x q) n =
       let l = naming frame outer a in
-      is_fine p f (x, q) (declared path x) (typed_phrase path a) l (place_of (declared outer x)) (w.had x) (w.class x) (phrase_known frame outer path w a (within_first l (use_at outer x q) n))
+      is_fine p f (x, q) (declared path x) (typed_phrase path a) l (w.had x) (w.class x) (phrase_known frame outer path w a n)
   kind_known frame outer path w p f (tree.Assign a b) n =
       let l = naming frame outer a in
       let m = naming frame outer b in
@@ -130,7 +130,7 @@ mutual
       let l = naming frame outer c in
       let m = naming frame outer a in
       while_fine p f (typed_phrase path c) (typed_phrase path a) l m (phrase_known frame outer path w c (within_first l m n)) (phrase_known frame outer path w a (within_second l m n))
-  kind_known frame outer path w p f (tree.Goto x) n = goto_fine p f (declared path x) (place_of (declared outer x)) (w.had x)
+  kind_known frame outer path w p f (tree.Goto x) n = goto_fine p f (declared path x) (w.had x)
   kind_known frame outer path w p f (tree.Assert c) n = assert_fine p f (typed_phrase path c) (naming frame outer c) (phrase_known frame outer path w c n)
   kind_known {names = names} frame outer path w p f (tree.Block decls items) n =
       let xs = block_names decls items in
@@ -207,7 +207,7 @@ mutual
   inner_known frame outer path w (tree.At p f (tree.Named x lists)) n =
       let e = declared path x in
       let l = lists_naming frame outer lists in
-      named_sound e (first_list path p e lists) p (place_of (declared outer x)) l (w.had x) (first_known frame outer path w p e (w.means x) lists (within_second (use_at outer x p) l n))
+      named_sound e (first_list path p e lists) l (w.had x) (first_known frame outer path w p e (w.means x) lists n)
   inner_known frame outer path w a n = tt
 
   items_known : {names classes : List Place} (frame : Frame) (outer : NamePath) (path : Scopes) → Around names classes outer path → (v : Verdict) → Tells classes v → (items : tree.Items) → PlacesHad names (label_names items) → Within names classes (items_naming frame outer items)
@@ -245,13 +245,12 @@ mutual
   decl_known frame outer around w inner path v (tree.Simple spec xs) had n = simple_fine spec xs v had
   decl_known frame outer around w inner path v (tree.Array spec xs bounds) had n =
       let m = bounds_naming frame outer bounds in
-      array_fine spec xs (bound_count bounds) (typed_bounds around bounds) m v had (bounds_known frame outer around w bounds (within_second (spec_uses inner spec) m n))
+      array_fine spec xs (bound_count bounds) (typed_bounds around bounds) m v had (bounds_known frame outer around w bounds n)
   decl_known {names = names} frame outer around w inner path v (tree.Proc p result x fs body) had n =
       let xs = formal_names fs in
       let own = of_procedure frame in
       let m = naming (inside own xs) (scope_of xs ∷ inner) body in
-      let rest = within_second (formal_uses inner fs) (and (declares own xs) m) (within_second (result_uses inner result) (and (formal_uses inner fs) (and (declares own xs) m)) n) in
-      let formals = infos_places names own xs (within_first (declares own xs) m rest).named in
+      let formals = infos_places names own xs (within_first (declares own xs) m n).named in
       procedure_fine p result x fs (typed_phrase (formal_scope path fs ∷ path) body) own xs m v had.0 formals
-      (phrase_known (inside own xs) (scope_of xs ∷ inner) (formal_scope path fs ∷ path) (around_formals fs formals v) body (within_second (declares own xs) m rest))
+      (phrase_known (inside own xs) (scope_of xs ∷ inner) (formal_scope path fs ∷ path) (around_formals fs formals v) body (within_second (declares own xs) m n))
   decl_known frame outer around w inner path v (tree.Class c) had n = class_fine c v had.0 had.1

@@ -1,13 +1,13 @@
 -- Each record class of a program is one of its names.
 use Rattle.std.proofs.Common.{◌≡◌, refl, zero, suc, List, [], ◌∷◌, ◌++◌, Bool, true, false, ◌⊎◌, inl, inr, arith}
-use Rattle.std.specs.Prelude.{⊤, Option, Some, None}
+use Rattle.std.specs.Prelude.{⊤}
 use Rattle.std.specs.List.{All}
 use Rattle.value_ops.specs.declared.places.Place.{Place}
 use Rattle.algolw_tree.specs.declared.programs.NameInfo.{NameInfo}
-use Rattle.algolw_tree.specs.Tree.{Phrase, Placed, TypeSpec, Formal}
+use Rattle.algolw_tree.specs.Tree.{Phrase, Placed}
 use Rattle.algolw_tree.specs.Tree as tree
 use Rattle.algolw_typing.specs.Types.{is_before}
-use Rattle.algolw_typing.specs.Naming.{Class, Naming, and, Frame, infos, inside, of_procedure, outermost, NamePath, scope_of, standard_names, decls_names, decl_names, label_names, block_names, formal_names, declares, use_at, uses_of, spec_uses, result_uses, formal_uses, naming, kind_naming, perhaps_naming, phrases_naming, links_naming, lists_naming, actuals_naming, items_naming, bounds_naming, decls_naming, decl_naming, program_naming}
+use Rattle.algolw_typing.specs.Naming.{Class, Naming, and, Frame, infos, inside, of_procedure, outermost, NamePath, scope_of, standard_names, decls_names, decl_names, label_names, block_names, formal_names, declares, naming, kind_naming, perhaps_naming, phrases_naming, links_naming, lists_naming, actuals_naming, items_naming, bounds_naming, decls_naming, decl_naming, program_naming}
 use Rattle.algolw_typing.specs.Programs.{inserted_by, by_place, program_of}
 use Rattle.algolw_typing.specs.Known.{IsNamed}
 
@@ -66,25 +66,6 @@ module _ (There : Placed → Type 0) where
   infos_there frame [] h = tt
   infos_there frame (x ∷ xs) h = (h.0, infos_there (record frame { slot = suc frame.slot }) xs h.1)
 
-  good_uses : (path : NamePath) (xs : List Placed) → IsGood (uses_of path xs)
-  good_uses path [] = λ h. tt
-  good_uses path (x ∷ xs) = both (use_at path x.0 x.1) (uses_of path xs) (λ h. tt) (good_uses path xs)
-
-  good_spec : (path : NamePath) (spec : TypeSpec) → IsGood (spec_uses path spec)
-  good_spec path tree.Integer = λ h. tt
-  good_spec path tree.Logical = λ h. tt
-  good_spec path (tree.Bits n) = λ h. tt
-  good_spec path (tree.Str n) = λ h. tt
-  good_spec path (tree.Reference xs) = good_uses path xs
-
-  good_result : (path : NamePath) (spec : Option TypeSpec) → IsGood (result_uses path spec)
-  good_result path None = λ h. tt
-  good_result path (Some spec) = good_spec path spec
-
-  good_formals : (path : NamePath) (fs : List Formal) → IsGood (formal_uses path fs)
-  good_formals path [] = λ h. tt
-  good_formals path (f ∷ fs) = both (result_uses path f.spec) (formal_uses path fs) (good_result path f.spec) (good_formals path fs)
-
   mutual
     good_naming : (frame : Frame) (path : NamePath) (x : tree.Phrase) → IsGood (naming frame path x)
     good_naming frame path (tree.At p f k) = good_kind frame path p k
@@ -97,13 +78,13 @@ module _ (There : Placed → Type 0) where
     good_kind frame path p (tree.BitsLit b) = λ h. tt
     good_kind frame path p (tree.Quoted s) = λ h. tt
     good_kind frame path p (tree.Goto x) = λ h. tt
-    good_kind frame path p (tree.Named x lists) = both (use_at path x p) (lists_naming frame path lists) (λ h. tt) (good_lists frame path lists)
+    good_kind frame path p (tree.Named x lists) = good_lists frame path lists
     good_kind frame path p (tree.Negated a) = good_naming frame path a
     good_kind frame path p (tree.Abs a) = good_naming frame path a
     good_kind frame path p (tree.Signed minus a) = good_naming frame path a
     good_kind frame path p (tree.Chain a links) = both (naming frame path a) (links_naming frame path links) (good_naming frame path a) (good_links frame path links)
     good_kind frame path p (tree.Relation op a b) = both (naming frame path a) (naming frame path b) (good_naming frame path a) (good_naming frame path b)
-    good_kind frame path p (tree.IsClass a x q) = both (naming frame path a) (use_at path x q) (good_naming frame path a) (λ h. tt)
+    good_kind frame path p (tree.IsClass a x q) = good_naming frame path a
     good_kind frame path p (tree.Assign a b) = both (naming frame path a) (naming frame path b) (good_naming frame path a) (good_naming frame path b)
     good_kind frame path p (tree.IfThen c a b) =
         both (naming frame path c) (and (naming frame path a) (perhaps_naming frame path b)) (good_naming frame path c)
@@ -173,14 +154,13 @@ module _ (There : Placed → Type 0) where
         both (decl_naming frame around path d) (decls_naming frame around path rest) (good_decl frame around path d parts.0) (good_decls frame around path rest parts.1)
 
     good_decl : (frame : Frame) (around path : NamePath) (d : tree.Decl) → Each There (decl_names d) → IsGood (decl_naming frame around path d)
-    good_decl frame around path (tree.Simple spec xs) t = good_spec path spec
-    good_decl frame around path (tree.Array spec xs bounds) t = both (spec_uses path spec) (bounds_naming frame around bounds) (good_spec path spec) (good_bounds frame around bounds)
+    good_decl frame around path (tree.Simple spec xs) t = λ h. tt
+    good_decl frame around path (tree.Array spec xs bounds) t = good_bounds frame around bounds
     good_decl frame around path (tree.Proc p result x formals body) t =
         let xs = formal_names formals in
         let f = of_procedure frame in
         let inner = naming (inside f xs) (scope_of xs ∷ path) body in
-        both (result_uses path result) (and (formal_uses path formals) (and (declares f xs) inner)) (good_result path result)
-        (both (formal_uses path formals) (and (declares f xs) inner) (good_formals path formals) (both (declares f xs) inner (λ h. tt) (good_naming (inside f xs) (scope_of xs ∷ path) body)))
+        both (declares f xs) inner (λ h. tt) (good_naming (inside f xs) (scope_of xs ∷ path) body)
     good_decl frame around path (tree.Class c) t = λ h. (t.0, tt)
 
   good_program : (x : Phrase) → IsGood (program_naming x)

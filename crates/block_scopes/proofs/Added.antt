@@ -1,8 +1,11 @@
 -- What is added, part by part.
-use Rattle.std.proofs.Common.{◌≡◌, ℕ, suc, ◌+◌, ◌<◌, ◌≤◌, List, [], ◌∷◌, ◌++◌, length, get_or, drop, sym, ap, subst, ◌∙◌, append_assoc, append-nil, drop-cons, add-one}
+use Rattle.std.proofs.Common.{◌≡◌, ℕ, suc, ◌+◌, ◌<◌, ◌≤◌, List, [], ◌∷◌, ◌++◌, length, get_or, map, drop, sym, ap, subst, ◌∙◌, append_assoc, append-nil, drop-cons, add-one}
 use Rattle.std.proofs.Math.ListN.{drop_of_length-le}
-use Rattle.algolw_typing.specs.Naming.{Naming, nothing, and}
+use Rattle.std.proofs.lemmas.List.{map-append}
+use Rattle.algolw_typing.specs.Naming.{Class, Naming, nothing, and}
 use Rattle.block_scopes.specs.Adding.{Adds}
+use Rattle.block_scopes.specs.ClassView.{class_view}
+use Rattle.block_scopes.specs.declared.classes.FoundClass.{FoundClass}
 use Rattle.block_scopes.specs.declared.resolver.Resolver.{Resolver}
 
 pub adds_nothing : (a : Resolver) → Adds a a nothing
@@ -36,3 +39,7 @@ turn N M step xs i x a b c within is left adds =
 
 pub finish : {X : Type 0} (N : List X → Naming) (none : N [] ≡ nothing) (xs : List X) (i : ℕ) (a b : Resolver) → length xs ≤ i → Left (N xs) (N (drop i xs)) a b → Adds a b (N xs)
 finish N none xs i a b past left = ended (N xs) (N (drop i xs)) a b left (ap N (drop_of_length-le xs past) ∙ none)
+
+-- a record class more
+pub class_more : (old new : List FoundClass) (found : FoundClass) (class : Class) → new ≡ old ++ found ∷ [] → class_view found ≡ class → map class_view new ≡ map class_view old ++ class ∷ []
+class_more old new found class more is = ap (map class_view) more ∙ map-append class_view old (found ∷ []) ∙ ap (λ c. map class_view old ++ c ∷ []) is

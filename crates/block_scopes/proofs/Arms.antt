@@ -1,5 +1,5 @@
 -- What a kind of phrase adds, by the tree that it is.
-use Rattle.std.proofs.Common.{◌≡◌, List, [], ◌∷◌, ◌++◌, ℕ, suc, ◌+◌, Option, Result, map, refl, sym, ap, subst, ◌∙◌, append_assoc, append-nil}
+use Rattle.std.proofs.Common.{◌≡◌, List, [], ◌∷◌, ◌++◌, ℕ, suc, ◌+◌, Result, map, refl, sym, ap, subst, ◌∙◌, append_assoc, append-nil}
 use Rattle.std.specs.Result.{OnOk}
 use Rattle.value_ops.specs.declared.places.Place.{Place}
 use Rattle.std.specs.Option.{option_map}
@@ -9,12 +9,11 @@ use Rattle.algolw_tree.specs.declared.phrases.Labelled.{Labelled, Labelled', out
 use Rattle.algolw_tree.specs.Tree as Tree
 use Rattle.algolw_tree.specs.Tree.{Placed}
 use Rattle.algolw_tree.proofs.Sizes.{size, size_items}
-use Rattle.algolw_typing.specs.Naming.{Naming, Frame, NamePath, nothing, and, naming, kind_naming, perhaps_naming, phrases_naming, items_naming, decl_naming, label_names, declares, inside, of_procedure, scope_of, formal_names, formal_uses, result_uses}
+use Rattle.algolw_typing.specs.Naming.{Naming, Frame, NamePath, nothing, and, naming, kind_naming, perhaps_naming, phrases_naming, items_naming, decl_naming, label_names, declares, inside, of_procedure, scope_of, formal_names}
 use Rattle.block_scopes.specs.declared.resolver.Resolver.{Resolver}
 use Rattle.block_scopes.specs.Adding.{Adds}
 use Rattle.block_scopes.proofs.Added.{adds_and}
 use Rattle.block_scopes.specs.Parts.{listing_naming, item_naming, item_labels, controlled_naming}
-use Rattle.block_scopes.proofs.Unnamed.{behind, none_of_result, none_of_formals}
 
 pub and_assoc : (a b c : Naming) → and (and a b) c ≡ and a (and b c)
 and_assoc a b c = simp append_assoc
@@ -65,18 +64,17 @@ range_inside b c inner g path x s y e h = subst (λ (i : Frame). Adds b c (and (
 pub values_inside : (b c : Resolver) (inner g : Frame) (path : NamePath) (as_ : Tree.Phrases) → inner ≡ g → Adds b c (phrases_naming inner path as_) → Adds b c (phrases_naming g path as_)
 values_inside b c inner g path as_ e h = subst (λ (i : Frame). Adds b c (phrases_naming i path as_)) e h
 
--- a procedure, of which the types of the result and of the formals declare nothing
-pub procedure_adds : (a b c : Resolver) (f g inner : Frame) (path : NamePath) (result : Option Tree.TypeSpec) (formals : List Tree.Formal) (xs : List Placed) (body : Tree.Phrase)
+-- a procedure
+pub procedure_adds : (a b c : Resolver) (f g inner : Frame) (path : NamePath) (formals : List Tree.Formal) (xs : List Placed) (body : Tree.Phrase)
     → g ≡ of_procedure f → xs ≡ formal_names formals → inner ≡ inside g xs → Adds a b (declares g xs) → Adds b c (naming inner (scope_of xs ∷ path) body)
     → let ys = formal_names formals in
-    Adds a c (and (result_uses path result) (and (formal_uses path formals) (and (declares (of_procedure f) ys) (naming (inside (of_procedure f) ys) (scope_of ys ∷ path) body))))
-procedure_adds a b c f g inner path result formals xs body at names within scope phrase =
+    Adds a c (and (declares (of_procedure f) ys) (naming (inside (of_procedure f) ys) (scope_of ys ∷ path) body))
+procedure_adds a b c f g inner path formals xs body at names within scope phrase =
     let ys = formal_names formals in
     let whole = adds_and a b c (declares g xs) (naming inner (scope_of xs ∷ path) body) scope phrase in
     let inside_it = subst (λ (i : Frame). Adds a c (and (declares g xs) (naming i (scope_of xs ∷ path) body))) within whole in
     let of_formals = subst (λ (zs : List Placed). Adds a c (and (declares g zs) (naming (inside g zs) (scope_of zs ∷ path) body))) names inside_it in
-    let all = subst (λ (h : Frame). Adds a c (and (declares h ys) (naming (inside h ys) (scope_of ys ∷ path) body))) at of_formals in
-    behind a c (result_uses path result) _ (none_of_result path result) (behind a c (formal_uses path formals) _ (none_of_formals path formals) all)
+    subst (λ (h : Frame). Adds a c (and (declares h ys) (naming (inside h ys) (scope_of ys ∷ path) body))) at of_formals
 
 -- a phrase of a block, before the others
 pub item_first : (f : Frame) (path : NamePath) (i : Tree.Item) (items : Tree.Items) → items_naming f path (Tree.item_and i items) ≡ and (item_naming f path i) (items_naming f path items)

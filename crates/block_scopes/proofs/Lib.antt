@@ -3,4 +3,3 @@ pub mod Arms
 pub mod PlaceOrder
 pub mod StableSorts
 pub mod Standards
-pub mod Unnamed

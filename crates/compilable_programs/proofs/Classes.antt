@@ -3,7 +3,7 @@ use Rattle.std.proofs.Common.{◌≡◌, ℕ, ◌+◌, ◌≤◌, List, [], ◌�
 use Rattle.std.specs.Prelude.{Option, Bool, true, false, ⊤}
 use Rattle.value_ops.specs.declared.places.Place.{Place}
 use Rattle.algolw_tree.specs.Tree as tree
-use Rattle.algolw_tree.specs.Tree.{Placed, TypeSpec, Formal, Phrase}
+use Rattle.algolw_tree.specs.Tree.{Placed, Formal, Phrase}
 use Rattle.algolw_typing.specs.Types.{ValueType, Statement, is_place, has}
 use Rattle.algolw_typing.specs.Verdicts.{Verdict, Good}
 use Rattle.algolw_typing.specs.Meanings.{FormalType, by_name, by_value, by_result, by_value_result, for_array, for_procedure}
@@ -12,7 +12,7 @@ use Rattle.algolw_typing.specs.Names.{Entry, declared}
 use Rattle.algolw_typing.specs.Scopes.{Known, Scopes, standard_scope, formal_scope, label_entries, names_of_block, control_scope}
 use Rattle.algolw_typing.specs.Typed as typed
 use Rattle.algolw_typing.specs.Typing.{gives, as_verdict, link_verdict, item_verdict, then_item, typed_phrase, typed_phrases, typed_links, typed_items, typed_bounds, typed_decls, typed_decl, typed_formals, typed_parts, first_list, more_lists, typed_groups, use_with_list, use_as_base, list_verdict, part_verdict, reading_of, meanings}
-use Rattle.algolw_typing.specs.Naming.{Class, Naming, and, nothing, declares, use_at, Frame, inside, outermost, standard_names, of_procedure, NamePath, scope_of, block_names, formal_names, spec_uses, result_uses, formal_uses, naming, program_naming, kind_naming, phrases_naming, links_naming, lists_naming, actuals_naming, items_naming, bounds_naming, decls_naming, decl_naming}
+use Rattle.algolw_typing.specs.Naming.{Class, Naming, and, nothing, declares, Frame, inside, outermost, standard_names, of_procedure, NamePath, scope_of, block_names, formal_names, naming, program_naming, kind_naming, phrases_naming, links_naming, lists_naming, actuals_naming, items_naming, bounds_naming, decls_naming, decl_naming}
 use Rattle.algolw_typing.specs.Programs.{program_of}
 use Rattle.program_meaning.specs.Translating as translating
 use Rattle.program_meaning.specs.Translating.{Declared, count, formal_declared, type_of_formal, standard_known}
@@ -138,7 +138,7 @@ module _ (classes : List Place) where
     kind_held (tree.BitsLit b) p f frame outer path h = none
     kind_held (tree.Quoted s) p f frame outer path h = none
     kind_held (tree.Goto x) p f frame outer path h = none
-    kind_held (tree.Named x lists) p f frame outer path h = first_held lists frame outer path p (declared path x) (right (use_at outer x p) (lists_naming frame outer lists) h)
+    kind_held (tree.Named x lists) p f frame outer path h = first_held lists frame outer path p (declared path x) h
     kind_held (tree.Negated a) p f frame outer path h = held a frame outer path h
     kind_held (tree.Abs a) p f frame outer path h = held a frame outer path h
     kind_held (tree.Signed minus a) p f frame outer path h = held a frame outer path h
@@ -150,7 +150,7 @@ module _ (classes : List Place) where
         let m = naming frame outer a in
         let n = naming frame outer b in
         both (held a frame outer path (left m n h)) (held b frame outer path (right m n h))
-    kind_held (tree.IsClass a x q) p f frame outer path h = held a frame outer path (left (naming frame outer a) (use_at outer x q) h)
+    kind_held (tree.IsClass a x q) p f frame outer path h = held a frame outer path h
     kind_held (tree.Assign a b) p f frame outer path h =
         let u = (typed_phrase path b).node in
         let m = naming frame outer a in
@@ -292,14 +292,12 @@ module _ (classes : List Place) where
 
     in_decl_held : (d : tree.Decl) (frame : Frame) (outer scope : NamePath) (around path : Scopes) → Had (decl_naming frame outer scope d) → Held (inner_infos (typed_decl around path d).decl)
     in_decl_held (tree.Simple spec xs) frame outer scope around path h = none
-    in_decl_held (tree.Array spec xs pairs) frame outer scope around path h = bounds_held pairs frame outer around (right (spec_uses scope spec) (bounds_naming frame outer pairs) h)
+    in_decl_held (tree.Array spec xs pairs) frame outer scope around path h = bounds_held pairs frame outer around h
     in_decl_held (tree.Proc p result x formals body) frame outer scope around path h =
         let xs = formal_names formals in
         let g = of_procedure frame in
-        let l = formal_uses scope formals in
         let n = naming (inside g xs) (scope_of xs ∷ scope) body in
-        let q = right (result_uses scope result) (and l (and (declares g xs) n)) h in
-        let r = right (declares g xs) n (right l (and (declares g xs) n) q) in
+        let r = right (declares g xs) n h in
         both (record { all = formals_held (typed_formals path formals) }) (held body (inside g xs) (scope_of xs ∷ scope) (formal_scope path formals ∷ path) r)
     in_decl_held (tree.Class c) frame outer scope around path h = none
 

@@ -1,6 +1,6 @@
 -- The names that a tree declares weigh at most what its typed tree declares, and its record classes at most what its names do.
 use Rattle.std.proofs.Common.{◌≡◌, ℕ, suc, ◌+◌, ◌≤◌, List, [], ◌∷◌, ◌++◌, refl, ap, arith}
-use Rattle.std.specs.Prelude.{Option, Some, None}
+use Rattle.std.specs.Prelude.{Option, Some}
 use Rattle.value_ops.specs.declared.places.Place.{Place}
 use Rattle.algolw_tree.specs.declared.programs.NameInfo.{NameInfo}
 use Rattle.algolw_tree.specs.Tree as tree
@@ -12,7 +12,7 @@ use Rattle.algolw_typing.specs.Names.{Entry, declared}
 use Rattle.algolw_typing.specs.Scopes.{Known, Scopes, group_names, formal_scope, label_entries, names_of_block, control_scope, spec_type, result_type}
 use Rattle.algolw_typing.specs.Typed as typed
 use Rattle.algolw_typing.specs.Typing.{gives, as_verdict, link_verdict, item_verdict, then_item, uncounted, declare_at, typed_phrase, typed_phrases, typed_links, typed_items, typed_bounds, typed_decls, typed_decl, typed_formals, typed_groups, typed_parts, first_list, more_lists, use_with_list, use_as_base, list_verdict, part_verdict, reading_of, given, meanings}
-use Rattle.algolw_typing.specs.Naming.{Class, Naming, and, nothing, Frame, infos as frame_infos, inside, of_procedure, NamePath, scope_of, decls_names, decl_names, label_names, block_names, formal_names, declares, use_at, uses_of, spec_uses, result_uses, formal_uses, group_uses, naming, kind_naming, phrases_naming, links_naming, lists_naming, actuals_naming, items_naming, bounds_naming, decls_naming, decl_naming}
+use Rattle.algolw_typing.specs.Naming.{Class, Naming, and, nothing, Frame, infos as frame_infos, inside, of_procedure, NamePath, scope_of, decls_names, decl_names, label_names, block_names, formal_names, declares, naming, kind_naming, phrases_naming, links_naming, lists_naming, actuals_naming, items_naming, bounds_naming, decls_naming, decl_naming}
 use Rattle.program_meaning.specs.Translating.{Declared, unknown, count, formal_declared, type_of_formal}
 use Rattle.program_soundness.specs.Kinds.{Meaning, a_label, formal_meaning}
 use Rattle.program_soundness.specs.Tables.{Info, each_info, group_info, fields_info, decl_info, decls_info, labels_info, formals_info, control_info, infos, nodes_infos, links_infos, lists_infos, actuals_infos, items_infos, bounds_infos, decls_infos, inner_infos}
@@ -69,34 +69,6 @@ module _ (m : Place → ℕ) where
 
   declared_names : (frame : Frame) (xs : List Placed) → Weighs (declares frame xs) 0 (placed_weight xs)
   declared_names frame xs = record { classes = omega arith; names = omega (arith, frame_weight frame xs) }
-
-  -- ---- uses
-
-  use_weighs : (path : NamePath) (x : List ℕ) (p : Place) → Weighs (use_at path x p) 0 0
-  use_weighs path x p = record { classes = omega arith; names = omega arith }
-
-  uses_weigh : (path : NamePath) (xs : List Placed) → Weighs (uses_of path xs) 0 0
-  uses_weigh path [] = empty
-  uses_weigh path (x ∷ xs) = both (use_at path x.0 x.1) (uses_of path xs) (use_weighs path x.0 x.1) (uses_weigh path xs)
-
-  spec_weighs : (path : NamePath) (spec : TypeSpec) → Weighs (spec_uses path spec) 0 0
-  spec_weighs path tree.Integer = empty
-  spec_weighs path tree.Logical = empty
-  spec_weighs path (tree.Bits n) = empty
-  spec_weighs path (tree.Str n) = empty
-  spec_weighs path (tree.Reference xs) = uses_weigh path xs
-
-  result_weighs : (path : NamePath) (spec : Option TypeSpec) → Weighs (result_uses path spec) 0 0
-  result_weighs path None = empty
-  result_weighs path (Some spec) = spec_weighs path spec
-
-  formals_weigh : (path : NamePath) (fs : List Formal) → Weighs (formal_uses path fs) 0 0
-  formals_weigh path [] = empty
-  formals_weigh path (f ∷ fs) = both (result_uses path f.spec) (formal_uses path fs) (result_weighs path f.spec) (formals_weigh path fs)
-
-  groups_weigh : (path : NamePath) (gs : List (TypeSpec × List Placed)) → Weighs (group_uses path gs) 0 0
-  groups_weigh path [] = empty
-  groups_weigh path (g ∷ gs) = both (spec_uses path g.0) (group_uses path gs) (spec_weighs path g.0) (groups_weigh path gs)
 
   -- ---- names of declarations
 
@@ -173,9 +145,9 @@ module _ (m : Place → ℕ) where
     kind_weighs (tree.Truth b) p f frame outer path = empty
     kind_weighs (tree.BitsLit b) p f frame outer path = empty
     kind_weighs (tree.Quoted s) p f frame outer path = empty
-    kind_weighs (tree.Goto x) p f frame outer path = use_weighs outer x p
+    kind_weighs (tree.Goto x) p f frame outer path = empty
     kind_weighs (tree.Named x lists) p f frame outer path =
-        at_most 0 _ (and (use_at outer x p) (lists_naming frame outer lists)) (both (use_at outer x p) (lists_naming frame outer lists) (use_weighs outer x p) (first_weighs lists frame outer path p (declared path x))) (omega arith) (omega arith)
+        first_weighs lists frame outer path p (declared path x)
     kind_weighs (tree.Negated a) p f frame outer path = weighs a frame outer path
     kind_weighs (tree.Abs a) p f frame outer path = weighs a frame outer path
     kind_weighs (tree.Signed minus a) p f frame outer path = weighs a frame outer path
@@ -186,7 +158,7 @@ module _ (m : Place → ℕ) where
         at_most 0 _ n (both (naming frame outer a) (links_naming frame outer links) (weighs a frame outer path) (links_weigh links frame outer path v)) (omega arith) (omega (arith, infos_both m (infos o.node) (links_infos (typed_links path v links).links)))
     kind_weighs (tree.Relation op a b) p f frame outer path = two_weigh a b frame outer path (weighs a frame outer path) (weighs b frame outer path)
     kind_weighs (tree.IsClass a x q) p f frame outer path =
-        at_most 0 _ (and (naming frame outer a) (use_at outer x q)) (both (naming frame outer a) (use_at outer x q) (weighs a frame outer path) (use_weighs outer x q)) (omega arith) (omega arith)
+        weighs a frame outer path
     kind_weighs (tree.Assign a b) p f frame outer path =
         let u = (typed_phrase path b).node in
         at_most 0 _ (and (naming frame outer a) (naming frame outer b)) (both (naming frame outer a) (naming frame outer b) (weighs a frame outer path) (weighs b frame outer path)) (omega arith)
@@ -373,21 +345,14 @@ module _ (m : Place → ℕ) where
         (omega (arith, infos_both m (inner_infos (typed_decl around path d).decl) (decls_infos (typed_decls around path rest).decls)))
 
     decl_weighs : (d : tree.Decl) (frame : Frame) (outer scope : NamePath) (around path : Scopes) → Weighs (decl_naming frame outer scope d) (placed_weight (decl_names d)) (own (inner_infos (typed_decl around path d).decl))
-    decl_weighs (tree.Simple spec xs) frame outer scope around path = at_most _ _ (spec_uses scope spec) (spec_weighs scope spec) (omega arith) (omega arith)
+    decl_weighs (tree.Simple spec xs) frame outer scope around path = at_most _ _ nothing empty (omega arith) (omega arith)
     decl_weighs (tree.Array spec xs bounds) frame outer scope around path =
-        at_most _ _ (and (spec_uses scope spec) (bounds_naming frame outer bounds)) (both (spec_uses scope spec) (bounds_naming frame outer bounds) (spec_weighs scope spec) (bounds_weigh bounds frame outer around)) (omega arith) (omega arith)
+        at_most _ _ (bounds_naming frame outer bounds) (bounds_weigh bounds frame outer around) (omega arith) (omega arith)
     decl_weighs (tree.Proc p result x formals body) frame outer scope around path =
         let xs = formal_names formals in
         let g = of_procedure frame in
         let within = formal_scope path formals ∷ path in
         let last = naming (inside g xs) (scope_of xs ∷ scope) body in
-        at_most _ _ (and (result_uses scope result) (and (formal_uses scope formals) (and (declares g xs) last)))
-        (
-        both (result_uses scope result) (and (formal_uses scope formals) (and (declares g xs) last)) (result_weighs scope result)
-        (
-        both (formal_uses scope formals) (and (declares g xs) last) (formals_weigh scope formals)
-        (both (declares g xs) last (declared_names g xs) (weighs body (inside g xs) (scope_of xs ∷ scope) within))
-        )
-        )
+        at_most _ _ (and (declares g xs) last) (both (declares g xs) last (declared_names g xs) (weighs body (inside g xs) (scope_of xs ∷ scope) within))
         (omega arith) (omega (arith, formals_weight path formals, infos_both m (formals_info (typed_formals path formals)) (infos (typed_phrase within body).node)))
-    decl_weighs (tree.Class c) frame outer scope around path = record { classes = omega arith; names = omega (arith, (groups_weigh scope c.groups).names) }
+    decl_weighs (tree.Class c) frame outer scope around path = record { classes = omega arith; names = omega arith }

@@ -1,5 +1,4 @@
 use Rattle.std.proofs.Common.{◌+◌, suc, List, [], ◌∷◌, map, refl, sym, ap, subst, ◌∙◌, rules}
-use Rattle.std.specs.Option.{option_map}
 use Rattle.algolw_tree.specs.Tree as Tree
 use Rattle.algolw_tree.specs.declared.phrases.Actual.{Actual}
 use Rattle.algolw_tree.specs.declared.phrases.Formal.{Formal}
@@ -13,12 +12,11 @@ use Rattle.algolw_tree.specs.declared.phrases.CaseValue.{out-CaseValue}
 use Rattle.algolw_tree.specs.declared.phrases.ForStep.{out-ForStep}
 use Rattle.algolw_tree.specs.declared.phrases.ForList.{out-ForList}
 use Rattle.algolw_tree.specs.Grammar.{phrases_of, links_of, lists_of, actuals_of, items_of, decls_of, bounds_of}
-use Rattle.algolw_tree.specs.View.{tree, link_tree, list_tree, actual_tree, part_tree, item_tree, decl_tree, bound_tree, spec_tree, formal_tree, optional_tree}
-use Rattle.algolw_typing.specs.Naming.{NamePath, phrases_naming, links_naming, lists_naming, actuals_naming, items_naming, bounds_naming, decls_naming, decl_naming, naming, use_at, scope_of, formal_names}
+use Rattle.algolw_tree.specs.View.{tree, link_tree, list_tree, actual_tree, part_tree, item_tree, decl_tree, bound_tree, formal_tree, optional_tree}
+use Rattle.algolw_typing.specs.Naming.{NamePath, phrases_naming, links_naming, lists_naming, actuals_naming, items_naming, bounds_naming, decls_naming, decl_naming, naming, scope_of, formal_names}
 use Rattle.block_scopes.specs.Adding.{Adds, frame_view}
 use Rattle.block_scopes.specs.Parts.{item_naming}
-use Rattle.block_scopes.proofs.Added.{adds_and, finish, turn}
-use Rattle.block_scopes.proofs.Unnamed.{adds_none, ahead_none, behind_none, none_of_spec}
+use Rattle.block_scopes.proofs.Added.{adds_nothing, adds_and, finish, turn}
 use Rattle.block_scopes.proofs.Arms.{and_nothing, procedure_adds, procedure_is, by_naming, by_kind, by_listing, by_decl, by_tree, controlled_adds, for_step_naming, for_list_naming, range_inside, values_inside, item_first, size_item, size_first}
 use Rattle.algolw_tree.proofs.Rows.{applied_at, assignment_at, relation_at, repetition_at, listed_at, listed_is, chain_at, chain_is, class_test_at, conditional_at, conditional_is, case_value_at, case_value_is, case_do_at, for_step_at, for_step_is, for_list_at, for_list_is, block_at, actuals_at, array_at}
 use Rattle.algolw_tree.proofs.Sizes.{size, size_kind, size_phrases, size_links, size_lists, size_listing, size_actuals, size_actual, size_items, size_bounds, size_decls, size_decl, item_smaller}
@@ -106,10 +104,10 @@ decl-bounds-requires t c = search (rules, ap size_decl (array_at _ c.in-Array.fi
 pub decl-returns-in-Array : goal.decl-returns-in-Array
 decl-returns-in-Array t c =
     by_decl c.bounds.result c.args.self.now c.bounds.new.self (frame_view c.args.frame) c.args.around.now c.args.path.now _ _ (array_at _ c.in-Array.field-0 c.in-Array.field-1 c.in-Array.bounds _ c.in-Array.is c.deref.ensures.value)
-    (behind_none c.bounds.result _ _ _ _ (none_of_spec c.args.path.now (spec_tree c.in-Array.field-0)) c.bounds.ensures)
+    c.bounds.ensures
 
 pub decl-returns-in-Simple : goal.decl-returns-in-Simple
-decl-returns-in-Simple t c = rw c.in-Simple.is (adds_none c.args.self.now _ (none_of_spec c.args.path.now (spec_tree c.in-Simple.field-0)))
+decl-returns-in-Simple t c = rw c.in-Simple.is (adds_nothing c.args.self.now)
 
 pub procedure-returns : goal.procedure-returns
 procedure-returns t c =
@@ -123,7 +121,7 @@ procedure-returns t c =
     subst (λ (x : Phrase). Adds c.declares.new.self c.phrase.new.self (naming (frame_view c.in_ok-inner.inner) (scope_of scope ∷ path) (tree x))) c.deref-2.ensures there in
     let names = c.in_ok-scope.ensures ∙ ap (λ (formals : List Formal). formal_names (map formal_tree formals)) c.deref.ensures.value in
     subst (λ (d : Tree.Decl). Adds c.args.self.now c.phrase.new.self (decl_naming frame path path d)) (sym (procedure_is c.args.procedure.now))
-    (procedure_adds _ _ _ frame (frame_view c.in_ok-of_procedure.field-0) (frame_view c.in_ok-inner.inner) path (option_map spec_tree own.result) (map formal_tree own.formals.items) scope (tree own.body.value) c.in_ok-of_procedure.ensures names c.in_ok-inner.ensures.inner c.in_ok-inner.ensures.adds body)
+    (procedure_adds _ _ _ frame (frame_view c.in_ok-of_procedure.field-0) (frame_view c.in_ok-inner.inner) path (map formal_tree own.formals.items) scope (tree own.body.value) c.in_ok-of_procedure.ensures names c.in_ok-inner.ensures.inner c.in_ok-inner.ensures.adds body)
 
 pub phrase-lists-requires : goal.phrase-lists-requires
 phrase-lists-requires t c =
@@ -134,7 +132,7 @@ phrase-returns-in-Listed t c =
     let path = c.args.path.now in
     by_kind c.lists.result c.args.self.now c.lists.new.self (frame_view c.args.frame) path c.args.phrase.now.place _ _
     (listed_at _ c.in-Listed.listed c.deref-in-Listed.result.now c.in-Listed.is c.deref-in-Listed.ensures ∙ listed_is c.deref-in-Listed.result.now ∙ ap (λ ls. Tree.Named (out-Listed c.deref-in-Listed.result.now).name (lists_of (map list_tree ls))) (sym c.deref-in-Listed-2.ensures.value))
-    (behind_none c.lists.result _ _ (use_at path (out-Listed c.deref-in-Listed.result.now).name c.args.phrase.now.place) _ (record { names = refl; classes = refl }) c.lists.ensures)
+    c.lists.ensures
 
 pub phrase-chain-requires : goal.phrase-chain-requires
 phrase-chain-requires t c = search (rules, ap size_kind (chain_at _ c.in-Chain.chain _ c.in-Chain.is c.deref-in-Chain.ensures))
@@ -148,9 +146,8 @@ phrase-phrase-requires-in-IsClass t c = search (rules, ap size_kind (class_test_
 pub phrase-returns-in-IsClass : goal.phrase-returns-in-IsClass
 phrase-returns-in-IsClass t c =
     let path = c.args.path.now in
-    let class = c.deref-in-IsClass.result.now.class in
     by_kind c.phrase-in-IsClass.result c.args.self.now c.phrase-in-IsClass.new.self (frame_view c.args.frame) path c.args.phrase.now.place _ _ (class_test_at _ c.in-IsClass.test _ c.in-IsClass.is c.deref-in-IsClass.ensures)
-    (ahead_none c.phrase-in-IsClass.result _ _ _ (use_at path class.0 class.1) (record { names = refl; classes = refl }) c.phrase-in-IsClass.ensures)
+    c.phrase-in-IsClass.ensures
 
 pub phrase-conditional-requires : goal.phrase-conditional-requires
 phrase-conditional-requires t c = search (rules, ap size_kind (conditional_at _ c.in-IfThen.conditional _ c.in-IfThen.is c.deref-in-IfThen.ensures))
@@ -260,4 +257,4 @@ applied-returns t c place =
     let path = c.args.path.now in
     let own = c.args.applied.now in
     let all = subst (λ (xs : List Actual). OnOk c.actuals.result (Adds c.args.self.now c.actuals.new.self (actuals_naming f path (actuals_of (map actual_tree xs))))) c.deref.ensures.value c.actuals.ensures in
-    behind_none c.actuals.result _ _ (use_at path own.name place) _ (record { names = refl; classes = refl }) (by_naming c.actuals.result _ _ _ _ (sym (and_nothing _)) all)
+    by_naming c.actuals.result _ _ _ _ (sym (and_nothing _)) all
