@@ -62,6 +62,7 @@ same_basic Bits basic.Bits = refl
 same_basic Bits b = refl
 same_basic (Str n) basic.Character = refl
 same_basic (Str n) b = refl
+same_basic (Reference s) basic.Integer = refl
 same_basic (Reference s) b = refl
 
 -- where the condition lets each row go on, the number is right
