@@ -3,9 +3,11 @@ use Rattle.std.proofs.Common.{◌≡◌, List, [], ◌∷◌, true, false, refl,
 use Rattle.algolw_typing.specs.Actuals.{actuals_fit}
 use Rattle.std.proofs.lemmas.List.{length-map}
 use Rattle.value_ops.specs.declared.places.Place.{Place}
-use Rattle.algolw_typing.specs.Types.{ValueType, Integer, Logical, Bits, Str, Reference, Statement, Simple}
+use Rattle.algolw_tree.specs.declared.standard.Basic.{Basic}
+use Rattle.algolw_tree.specs.declared.standard.Basic.TheVariants as basic
+use Rattle.algolw_typing.specs.Types.{ValueType, Integer, Logical, Bits, Str, Reference, Statement, Simple, is_same}
 use Rattle.algolw_typing.specs.Verdicts.{Verdict, Good, Fault, Silent, value, unless}
-use Rattle.algolw_typing.specs.Meanings.{FormalType, Part, a_star, a_phrase, as_array, as_procedure, with_formals, not_read, typeless, of_phrase, right_number, field_values, values_read, variables_read, field_of}
+use Rattle.algolw_typing.specs.Meanings.{FormalType, Part, a_star, a_phrase, as_array, as_procedure, with_formals, not_read, typeless, of_phrase, right_number, field_values, values_read, variables_read, field_of, basic_type, is_basic}
 use Rattle.typing_rules.specs.MeaningView.{values_of, refers_to}
 
 -- each part is a value
@@ -49,6 +51,19 @@ field_of_refers p c t Logical = refl
 field_of_refers p c t Bits = refl
 field_of_refers p c t (Str n) = refl
 field_of_refers p c t (Reference s) = refl
+
+-- the test for the type that an operation takes, as one for the same type
+pub same_basic : (t : ValueType) (b : Basic) → is_same t (basic_type b) ≡ is_basic b t
+same_basic Integer basic.Integer = refl
+same_basic Integer b = refl
+same_basic Logical basic.Logical = refl
+same_basic Logical b = refl
+same_basic Bits basic.Bits = refl
+same_basic Bits b = refl
+same_basic (Str n) basic.Character = refl
+same_basic (Str n) b = refl
+same_basic (Reference s) basic.Integer = refl
+same_basic (Reference s) b = refl
 
 -- where the condition lets each row go on, the number is right
 pub number_from_right : {A : Type 0} (view : A → Part) (p : Place) (n : ℕ) (parts : List A) → ((row : Verdict) → row ≡ right_number p n (map view parts) row) → length parts ≡ n

@@ -1,5 +1,4 @@
 ghost use Rattle.std.specs.Prelude.{◌≡◌, ◌∷◌, [], List, IfOk, length, map};
-ghost use Rattle.algolw_tree.specs.Standards as standards;
 ghost use Rattle.algolw_typing.specs.Scopes.{written};
 ghost use Rattle.std.specs.Option.{option_map};
 ghost use Rattle.algolw_typing.specs.Types as types;
@@ -13,7 +12,7 @@ use crate::class_set::ClassSet;
 use crate::conditions::{fault, integer, unless, value};
 use crate::types::{PhraseType, ValueType};
 use crate::verdicts::{NoType, Verdict};
-use algolw_tree::{Basic, Standard, UnaryOp};
+use algolw_tree::{Basic, Standard};
 use bumpalo::Bump;
 use std::alloc::AllocError;
 use value_ops::{Diagnostic, Place};
@@ -426,31 +425,20 @@ fn read_card_row<'a>(place: Place, parts: &[Part<'a>]) -> Verdict<'a>
     Ok(PhraseType::Statement)
 }
 
-/// Whether a value's type is one that operations take.
-fn is_basic<'a>(given: ValueType<'a>, basic: Basic) -> bool
-    ensures { result ≡ meanings.is_basic basic (value_type given.entry) }
+/// The type of the values that an operation takes or gives.
+fn basic_type<'a>(basic: Basic) -> ValueType<'a>
+    ensures { value_type result ≡ meanings.basic_type basic }
 {
     match basic {
-        Basic::Integer => matches!(given, ValueType::Integer),
-        Basic::Logical => matches!(given, ValueType::Logical),
-        Basic::Bits => matches!(given, ValueType::Bits),
-        Basic::Character => matches!(given, ValueType::Str(1)),
-    }
-}
-
-/// What a function gives.
-fn function_gives<'a>(op: UnaryOp) -> PhraseType<'a>
-    ensures { phrase_type result ≡ types.Simple (meanings.basic_type (standards.gives op)) }
-{
-    PhraseType::Value(match op.gives() {
         Basic::Integer => ValueType::Integer,
         Basic::Logical => ValueType::Logical,
         Basic::Bits => ValueType::Bits,
         Basic::Character => ValueType::Str(1),
-    })
+    }
 }
 
 /// A function or IOCONTROL, at the name: of one value of the type that it takes.
+#[tactic(auto, using(crate::proofs::Rests::same_basic))]
 fn one_value_row<'a>(
     place: Place,
     taken: Basic,
@@ -461,7 +449,11 @@ fn one_value_row<'a>(
 {
     no_star(place, parts)?;
     let given = value(place, one_part(place, parts)?)?;
-    unless(is_basic(given, taken), Diagnostic::TYPE_DOES_NOT_FIT, place)?;
+    unless(
+        given.is_same(basic_type(taken)),
+        Diagnostic::TYPE_DOES_NOT_FIT,
+        place,
+    )?;
     Ok(gives)
 }
 
@@ -470,13 +462,14 @@ pub(crate) fn standard_row<'a>(place: Place, standard: Standard, parts: &[Part<'
     ensures { verdict result ≡ meanings.standard_row place standard (map view.part parts.now) }
 {
     match standard {
-        Standard::Function(op) => one_value_row(place, op.takes(), parts, function_gives(op)),
+        Standard::Function(op) => {
+            let gives = PhraseType::Value(basic_type(op.gives()));
+            one_value_row(place, op.takes(), parts, gives)
+        }
         Standard::Read { next: _ } => read_row(place, parts),
         Standard::ReadCard => read_card_row(place, parts),
         Standard::Write { first: _ } => write_row(place, parts),
-        Standard::IoControl => {
-            one_value_row(place, Basic::Integer, parts, PhraseType::Statement)
-        }
+        Standard::IoControl => one_value_row(place, Basic::Integer, parts, PhraseType::Statement),
         Standard::MaxInteger => fault(place, Diagnostic::NAME_NOT_USED_SO),
     }
 }
