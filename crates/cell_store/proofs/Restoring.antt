@@ -192,10 +192,6 @@ module _ (frames : List Frame) (entered : List Entering) (shown : List Shown) (l
 
 -- ---- a text that is entered
 
-pub below_both : (t : Option ℕ) (a b c : ℕ) → c ≡ min a b → IsBelow t a → IsBelow t b → IsBelow t c
-below_both None a b c e p q = tt
-below_both (Some k) a b c e p q = omega (arith, e, p, q)
-
 pub newest_displayed : (frames : List Frame) (f : Frame) (entered : List Entering) (shown : List Shown) (round before torn : ℕ) (x : Shown) → AreLevels frames (levels_of entered) → length frames < length entered → IsDisplay frames f.link (levels_of entered) shown round → round + 1 < length shown →
     Restores (frames ++ f ∷ []) (slice_set entered (length frames) (record { level = round + 1; before = before; replaced = x })) torn (Some (length frames)) (slice_set shown (round + 1) (record { text = length frames; start = f.start })) (round + 1) →
     Displayed (frames ++ f ∷ []) (Some (length frames)) (slice_set entered (length frames) (record { level = round + 1; before = before; replaced = x })) (slice_set shown (round + 1) (record { text = length frames; start = f.start })) (round + 1) torn
@@ -221,9 +217,9 @@ wider_level (x ∷ entered) [] k e less = absurd (cc e)
 wider_level (x ∷ entered) (y ∷ more) zero e less = let same : y ≡ x = cc e in ap (λ (z : Entering). z.level) same
 wider_level (x ∷ entered) (y ∷ more) (suc k) e less = let rest : take (length entered) more ≡ entered = cc e in wider_level entered more k rest (omega (arith, less))
 
-pub wider_displayed : (frames : List Frame) (current : Option ℕ) (entered more : List Entering) (shown wider : List Shown) (level torn : ℕ) → take (length entered) more ≡ entered → take (length shown) wider ≡ shown → length entered ≤ length more → length frames ≤ 4294967295 →
-    Displayed frames current entered shown level torn → Displayed frames current more wider level 4294967295
-wider_displayed frames current entered more shown wider level torn kept kept_shown long few d =
+pub wider_displayed : (frames : List Frame) (current : Option ℕ) (entered more : List Entering) (shown wider : List Shown) (level torn : ℕ) → take (length entered) more ≡ entered → take (length shown) wider ≡ shown → length entered ≤ length more →
+    Displayed frames current entered shown level torn → Displayed frames current more wider level (length frames)
+wider_displayed frames current entered more shown wider level torn kept kept_shown long d =
     let many = d.display.rising.many in
     let a = length-map entered (λ (e : Entering). e.level) in
     let b = length-map more (λ (e : Entering). e.level) in
@@ -231,7 +227,7 @@ wider_displayed frames current entered more shown wider level torn kept kept_sho
       text = d.text;
       display = levels_changed frames (levels_of entered) (levels_of more) d.text wider level (λ k less. wider_level entered more k kept (omega (arith, less, many, a))) (omega (arith, many, a, b, long))
           (wider_display frames d.text (levels_of entered) shown level d.display wider kept_shown);
-      restores = ends (below_all d.text (length frames) 4294967295 d.display.there few);
+      restores = ends d.display.there;
       runs = d.runs;
     }
 

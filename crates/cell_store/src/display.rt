@@ -57,8 +57,8 @@ pub(crate) struct Display {
     pub level: u32,
     /// What is kept of the text of each frame, and behind the newest of others.
     pub entered: Vec<Entering>,
-    /// Of so many texts more was replaced than what is kept: where one of them goes on no more, the texts round the one that
-    /// goes on are looked for.
+    /// The first so many texts may have replaced more than what is kept: where one of them goes on no more, the texts round
+    /// the one that goes on are looked for.
     pub torn: u32,
 }
 
@@ -79,9 +79,10 @@ impl Display {
     }
 
     /// Makes room for as many frames, where there isn't more.
-    pub fn make_room(&mut self, room: u32) -> Result<(), AllocError>
-        ensures shown { (frames : List Frame) (current : Option ℕ) → length frames ≤ 4294967295 → Displayed frames current self.old.entered.items self.old.shown.items self.old.level self.old.torn
-            → Displayed frames current self.new.entered.items self.new.shown.items self.new.level self.new.torn }
+    pub fn make_room(&mut self, frames: &[Frame], room: u32) -> Result<(), AllocError>
+        requires few { length frames.now ≤ 4294967295 }
+        ensures shown { (current : Option ℕ) → Displayed frames.now current self.old.entered.items self.old.shown.items self.old.level self.old.torn
+            → Displayed frames.now current self.new.entered.items self.new.shown.items self.new.level self.new.torn }
         ensures entered { length self.old.entered.items ≤ length self.new.entered.items }
         ensures more { length self.old.shown.items ≤ length self.new.shown.items }
         ensures made { OnOk result ((room ≤ length self.new.entered.items) × (room < length self.new.shown.items)) }
@@ -94,7 +95,7 @@ impl Display {
             .reserve_exact(places.saturating_sub(self.shown.len()))?;
         fill_up(&mut self.entered, room, Entering::BLANK);
         fill_up(&mut self.shown, places, Shown::OUTERMOST);
-        self.torn = PROGRAM;
+        self.torn = frames.len() as u32;
         Ok(())
     }
 
@@ -121,7 +122,6 @@ impl Display {
         ensures places { length self.new.shown.items ≡ length self.old.shown.items }
     {
         let number = frames.len() as u32;
-        self.torn = self.torn.min(number);
         let before = self.level;
         let level = self.reach(frames, frame.link) + 1;
         self.entered[number as usize] = Entering {
@@ -150,7 +150,6 @@ impl Display {
         ensures places { length self.new.shown.items ≡ length self.old.shown.items }
     {
         let number = frames.len() as u32;
-        self.torn = self.torn.min(number);
         let before = self.level;
         let level = before - links + 1;
         self.entered[number as usize] = Entering {
@@ -256,19 +255,20 @@ impl Display {
         if is_there(text, frames) {
             self.show(frames, text);
             self.level = level_of(&self.entered, text);
+            self.torn = behind(text);
         }
     }
 
-    /// Makes a text that is there stand at its level, and the texts round it at theirs. Its level.
+    /// Makes a text that is there stand at its level, and the texts round it at theirs, before another is entered. Its level.
     #[inline(always)]
     fn reach(&mut self, frames: &[Frame], text: Option<u32>) -> u32
         requires shown { IsSomeDisplay frames.now (levels_of self.old.entered.items) self.old.shown.items self.old.level }
         requires there { IsBelow text (length frames.now) }
-        requires few { length frames.now ≤ 4294967295 }
+        requires few { length frames.now < 4294967295 }
         requires places { length frames.now < length self.old.shown.items }
         ensures level { result ≡ level_in (levels_of self.old.entered.items) text }
         ensures shown { IsDisplay frames.now text (levels_of self.new.entered.items) self.new.shown.items result }
-        ensures torn { ((self.new.shown ≡ self.old.shown) × (self.new.torn ≡ self.old.torn)) ⊎ (self.new.torn ≡ 4294967295) }
+        ensures torn { ((self.new.shown ≡ self.old.shown) × (self.new.torn ≡ self.old.torn)) ⊎ (length frames.now < self.new.torn) }
         ensures innermost { self.new.level ≡ self.old.level }
         ensures entered { self.new.entered ≡ self.old.entered }
         ensures places { length self.new.shown.items ≡ length self.old.shown.items }
@@ -279,6 +279,7 @@ impl Display {
         let level = level_of(&self.entered, text);
         if !shows(&self.shown, self.level, level, text) {
             self.show(frames, text);
+            self.torn = frames.len() as u32 + 1;
         }
         level
     }
@@ -292,13 +293,12 @@ impl Display {
         requires few { length frames.now ≤ 4294967295 }
         requires places { length frames.now < length self.old.shown.items }
         ensures shown { IsDisplay frames.now text (levels_of self.new.entered.items) self.new.shown.items (level_in (levels_of self.new.entered.items) text) }
-        ensures torn { self.new.torn ≡ 4294967295 }
+        ensures torn { self.new.torn ≡ self.old.torn }
         ensures innermost { self.new.level ≡ self.old.level }
         ensures entered { self.new.entered ≡ self.old.entered }
         ensures places { length self.new.shown.items ≡ length self.old.shown.items }
     {
         show_from(frames, &self.entered, &mut self.shown, self.level, text);
-        self.torn = PROGRAM;
     }
 }
 
@@ -311,6 +311,18 @@ fn level_of(entered: &[Entering], text: Option<u32>) -> u32
     match text {
         None => 0,
         Some(number) => entered[number as usize].level,
+    }
+}
+
+/// A number behind that of a text.
+#[inline(always)]
+fn behind(text: Option<u32>) -> u32
+    requires { IsBelow text 4294967295 }
+    ensures { IsBelow text result }
+{
+    match text {
+        None => 0,
+        Some(number) => number + 1,
     }
 }
 

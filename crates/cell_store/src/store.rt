@@ -113,7 +113,7 @@ impl Store {
         if self.answers.room() < room {
             self.frames
                 .reserve_exact((room - self.answers.len()) as usize)?;
-            self.display.make_room(room)?;
+            self.display.make_room(&self.frames, room)?;
             self.answers.make_room(room)?;
         }
         Ok(())

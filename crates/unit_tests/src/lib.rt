@@ -11,6 +11,8 @@ mod cards;
 #[cfg(test)]
 mod decisions;
 #[cfg(test)]
+mod displays;
+#[cfg(test)]
 mod jobs;
 #[cfg(test)]
 mod office_day;

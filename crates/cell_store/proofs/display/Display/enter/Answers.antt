@@ -1,11 +1,11 @@
-use Rattle.std.proofs.Common.{◌≡◌, inl, inr, ℕ, suc, ◌+◌, ◌<◌, ◌≤◌, min, List, ◌∷◌, [], ◌++◌, Option, Some, None, length, add-one, refl, sym, ap, ◌∙◌, subst, arith}
+use Rattle.std.proofs.Common.{◌≡◌, inl, inr, ℕ, suc, ◌+◌, ◌<◌, ◌≤◌, List, ◌∷◌, [], ◌++◌, Option, Some, None, length, add-one, refl, sym, ap, ◌∙◌, subst, arith}
 use Rattle.std.specs.Prelude.{slice_get, slice_set}
 use Rattle.std.proofs.lemmas.List.{length-map, map-set}
 use Rattle.cell_store.specs.declared.display.Shown.{Shown}
 use Rattle.cell_store.specs.declared.display.Entering.{Entering}
-use Rattle.cell_store.specs.Displays.{IsDisplay, Restores, ends, Displayed, levels_of}
+use Rattle.cell_store.specs.Displays.{IsBelow, IsDisplay, Restores, ends, Displayed, levels_of}
 use Rattle.cell_store.proofs.Displays.{display_low, read_there}
-use Rattle.cell_store.proofs.Restoring.{entered_restores, below_both, newest_displayed}
+use Rattle.cell_store.proofs.Restoring.{entered_restores, newest_displayed}
 use Rattle.cell_store.proofs.display.Display.enter.Goals as goal
 
 pub overflow_add-level : goal.overflow_add-level
@@ -27,7 +27,7 @@ index_mut-requires-2 c =
     omega (arith, low, c.requires.places, c.reach-level.ensures.places, self.shown.ok.0)
 
 -- what is kept gives the display from before
-restores : (c : goal.After-self-4-1) → Restores (c.args.frames.now ++ c.args.frame.now ∷ []) (slice_set c.args.self.now.entered.items (length c.args.frames.now) (record { level = c.reach-level.result + 1; before = c.args.self.now.level; replaced = c.index.result.now }))
+restores : (c : goal.After-self-3-1) → Restores (c.args.frames.now ++ c.args.frame.now ∷ []) (slice_set c.args.self.now.entered.items (length c.args.frames.now) (record { level = c.reach-level.result + 1; before = c.args.self.now.level; replaced = c.index.result.now }))
     c.reach-level.new.self.torn (Some (length c.args.frames.now)) (slice_set c.reach-level.new.self.shown.items (c.reach-level.result + 1) (record { text = length c.args.frames.now; start = c.args.frame.now.start })) (c.reach-level.result + 1)
 restores c =
     let old = c.args.self.now in
@@ -44,8 +44,8 @@ restores c =
           let shown : self.shown.items ≡ old.shown.items = ap (λ v. v.items) same.0 in
           subst (λ (xs : List Shown). Restores (frames ++ f ∷ []) (slice_set old.entered.items (length frames) (record { level = at; before = old.level; replaced = x })) self.torn (Some (length frames)) (slice_set xs at new) at) (sym shown)
           (entered_restores frames f old.entered.items old.shown.items old.level old.torn self.torn at x new c.requires.stands c.requires.entered (ap (λ xs. slice_get xs at) (sym shown) ∙ is)
-          (λ t below torn_below. below_both t old.torn (length frames) self.torn (same.1 ∙ c.min-self.ensures) torn_below below))
-      | inr all ↦ ends (omega (arith, all, c.requires.few))
+          (λ t below torn_below. subst (λ (n : ℕ). IsBelow t n) (sym same.1) torn_below))
+      | inr all ↦ ends all
     ]
 
 pub returns-clause-shown : goal.returns-clause-shown

@@ -3,7 +3,7 @@ use Rattle.std.specs.Prelude.{slice_get}
 use Rattle.cell_store.specs.declared.display.Shown.{Shown}
 use Rattle.cell_store.specs.Displays.{IsDisplay, Standing, levels_of}
 use Rattle.cell_store.proofs.Displays.{display_low, read_there}
-use Rattle.cell_store.proofs.Restoring.{Round, round_there, entered_restores, below_both, newest_displayed}
+use Rattle.cell_store.proofs.Restoring.{Round, round_there, entered_restores, newest_displayed}
 use Rattle.cell_store.proofs.display.Display.enter_within.Goals as goal
 
 pub overflow_sub-level : goal.overflow_sub-level
@@ -44,6 +44,5 @@ returns-clause-shown c =
     let low = display_low frames f.link (levels_of self.entered.items) self.shown.items (self.level - c.args.links) round.display in
     let is : slice_get self.shown.items at ≡ Some x = read_there self.shown.items at x (omega (arith, low, c.requires.places)) c.index.ensures in
     let s : Standing frames self.entered.items self.shown.items self.level self.torn = record { text = d.text; display = d.display; restores = d.restores } in
-    newest_displayed frames f self.entered.items self.shown.items (self.level - c.args.links) self.level c.min-self.result x d.display.rising c.requires.entered round.display (omega (arith, low, c.requires.places))
-    (entered_restores frames f self.entered.items self.shown.items self.level self.torn c.min-self.result at x (record { text = length frames; start = f.start }) s c.requires.entered is
-    (λ t below torn_below. below_both t self.torn (length frames) c.min-self.result c.min-self.ensures torn_below below))
+    newest_displayed frames f self.entered.items self.shown.items (self.level - c.args.links) self.level self.torn x d.display.rising c.requires.entered round.display (omega (arith, low, c.requires.places))
+    (entered_restores frames f self.entered.items self.shown.items self.level self.torn self.torn at x (record { text = length frames; start = f.start }) s c.requires.entered is (λ t below torn_below. torn_below))

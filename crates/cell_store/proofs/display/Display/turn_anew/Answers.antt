@@ -3,6 +3,9 @@ use Rattle.cell_store.specs.Displays.{IsBelow, IsDisplay, level_in, levels_of, e
 use Rattle.cell_store.proofs.Links.{below_all}
 use Rattle.cell_store.proofs.display.Display.turn_anew.Goals as goal
 
+pub behind-self-requires : goal.behind-self-requires
+behind-self-requires c = below_all c.args.text (length c.args.frames.now) 4294967295 (c.is_there.ensures.0 c.if-is_there.true) c.requires.few
+
 pub returns-then-is_there-clause-shown : goal.returns-then-is_there-clause-shown
 returns-then-is_there-clause-shown c =
     let self = c.show.new.self in
@@ -13,6 +16,6 @@ returns-then-is_there-clause-shown c =
     record {
       text = c.args.text;
       display = subst (λ (l : ℕ). IsDisplay frames c.args.text (levels_of self.entered.items) self.shown.items l) level c.show.ensures.shown;
-      restores = ends (below_all c.args.text (length frames) self.torn there (omega (arith, c.show.ensures.torn, c.requires.few)));
+      restores = ends c.behind-self.ensures;
       runs = λ below. refl;
     }
