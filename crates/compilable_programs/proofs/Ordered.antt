@@ -1,6 +1,6 @@
 -- Names and classes in order of place: they stand apart, and the standard names first.
-use Rattle.std.proofs.Common.{◌≡◌, ℕ, zero, suc, ◌+◌, ◌≤◌, ◌<◌, List, [], ◌∷◌, map, length, get_or, refl, sym, subst, ap, ◌∙◌, nat_lt, nat_eq, ◌⊎◌, inl, inr, arith}
-use Rattle.std.proofs.lemmas.Bool.{and_parts, or_cases, eqb-true}
+use Rattle.std.proofs.Common.{◌≡◌, ℕ, zero, suc, ◌+◌, ◌≤◌, ◌<◌, List, [], ◌∷◌, ◌++◌, map, length, get_or, refl, sym, subst, ap, ◌∙◌, nat_lt, nat_eq, ◌⊎◌, inl, inr, arith}
+use Rattle.std.proofs.lemmas.Bool.{and_parts, or_cases, eqb-true, not-true}
 use Rattle.std.proofs.lemmas.Bool.Decides.{nat_tests}
 use Rattle.std.specs.Prelude.{Bool, true, false, not, ⊤, ◌||◌, ◌&&◌}
 use Rattle.value_ops.specs.declared.places.Place.{Place}
@@ -153,6 +153,22 @@ in_front true i j is js h = absurd (h refl)
 in_front false i j is js h = refl
 
 -- what stands on no card is put in front of them
-pub put_in_front : (i : NameInfo) (is : List NameInfo) → i.place.card ≡ 0 → AllOnCards is → inserted_by (λ j. j.place) i is ≡ i ∷ is
+put_in_front : (i : NameInfo) (is : List NameInfo) → i.place.card ≡ 0 → AllOnCards is → inserted_by (λ j. j.place) i is ≡ i ∷ is
 put_in_front i [] e h = refl
 put_in_front i (j ∷ is) e h = in_front (is_before j.place i.place) i j is (inserted_by (λ j. j.place) i is) (λ b. h.0 (before_none j.place i.place e b))
+
+-- names on no card, each of which the next isn't before
+abbrev pub are_leading : List NameInfo → Bool
+are_leading [] = true
+are_leading (i ∷ []) = nat_eq i.place.card 0
+are_leading (i ∷ j ∷ names) = not (is_before j.place i.place) && are_leading (j ∷ names)
+
+-- they stay as they are, in front of those on cards
+pub leading_first : (names is : List NameInfo) → are_leading names ≡ true → AllOnCards (by_place (λ j. j.place) is) → by_place (λ j. j.place) (names ++ is) ≡ names ++ by_place (λ j. j.place) is
+leading_first [] is e h = refl
+leading_first (i ∷ []) is e h = put_in_front i (by_place (λ j. j.place) is) (eqb-true i.place.card 0 e) h
+leading_first (i ∷ j ∷ names) is e h =
+    let both = both_true (not (is_before j.place i.place)) (are_leading (j ∷ names)) e in
+    let behind = names ++ by_place (λ k. k.place) is in
+    ap (inserted_by (λ k. k.place) i) (leading_first (j ∷ names) is both.1 h)
+    ∙ in_front (is_before j.place i.place) i j behind (inserted_by (λ k. k.place) i behind) (λ b. let n = not-true (is_before j.place i.place) both.0 in cc)

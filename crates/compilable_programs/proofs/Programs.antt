@@ -1,5 +1,5 @@
 -- A program without faults may be compiled.
-use Rattle.std.proofs.Common.{◌≡◌, ℕ, suc, ◌≤◌, List, [], ◌∷◌, ◌++◌, map, get_or, refl, sym, subst, ap, ◌∙◌, arith}
+use Rattle.std.proofs.Common.{◌≡◌, ℕ, ◌≤◌, List, [], ◌∷◌, ◌++◌, map, get_or, refl, sym, subst, ap, ◌∙◌, arith}
 use Rattle.std.proofs.lemmas.List.{map-append}
 use Rattle.std.specs.Prelude.{true, false}
 use Rattle.value_ops.specs.declared.places.Place.{Place}
@@ -11,7 +11,7 @@ use Rattle.algolw_typing.specs.Scopes.{standard_scope}
 use Rattle.algolw_typing.specs.Naming.{Class, Naming, infos as frame_infos, inside, outermost, scope_of, standard_names, naming, program_naming}
 use Rattle.algolw_typing.specs.Typing.{faults}
 use Rattle.algolw_typing.specs.Faults.{typed_program, program_verdict, faults_found, program_faults}
-use Rattle.algolw_typing.specs.Programs.{inserted_by, by_place, program_of}
+use Rattle.algolw_typing.specs.Programs.{by_place, program_of}
 use Rattle.algolw_typing.specs.ProgramView.{nowhere}
 use Rattle.algolw_typing.specs.Known.{IsNamed}
 use Rattle.algolw_typing.proofs.GoodScopes.{NoFaults, none_first}
@@ -30,7 +30,7 @@ use Rattle.compilable_programs.specs.Laws.{ProgramsWithoutFaultsAreCompilable}
 use Rattle.compilable_programs.specs.Suits.{Suits}
 use Rattle.compilable_programs.proofs.Binders.{weight, infos_weight, infos_both, bound_phrase}
 use Rattle.compilable_programs.proofs.Declarations.{names_weight, classes_weight, names_both, weighs}
-use Rattle.compilable_programs.proofs.Ordered.{ordered_weighs, AtMostOnce, once_apart, apart_weighs, nowhere_weighs, name_there, text_found, all_on_cards, put_in_front}
+use Rattle.compilable_programs.proofs.Ordered.{ordered_weighs, AtMostOnce, once_apart, apart_weighs, nowhere_weighs, name_there, text_found, all_on_cards, leading_first}
 use Rattle.compilable_programs.proofs.Suiting.{at, none_has, suits}
 use Rattle.compilable_programs.proofs.Classes.{program_held}
 use Rattle.compilable_programs.proofs.Beginning.{begun_phrase, bare}
@@ -99,30 +99,8 @@ own_weights x i p e =
       nowhere_weighs p (infos (program_of x).root) (i.on_cards p e),
     )
 
--- the last of names, and those before it
-abbrev last_from : NameInfo → List NameInfo → NameInfo
-last_from i [] = i
-last_from i (j ∷ names) = last_from j names
-
-abbrev before_last : NameInfo → List NameInfo → List NameInfo
-before_last i [] = []
-before_last i (j ∷ names) = i ∷ before_last j names
-
-abbrev last_of : List NameInfo → NameInfo
-last_of [] = record { name = []; place = nowhere; level = 0; slot = 0 }
-last_of (i ∷ names) = last_from i names
-
-abbrev but_last : List NameInfo → List NameInfo
-but_last [] = []
-but_last (i ∷ names) = before_last i names
-
--- names put among others, the last of them first
-abbrev puts : List NameInfo → List NameInfo → List NameInfo
-puts [] is = is
-puts (i ∷ names) is = inserted_by (λ j. j.place) i (puts names is)
-
 standard_first : (x : Phrase) → IsPlaced x → (program_of x).names ≡ standard_infos_of ++ own_names x
-standard_first x i = ap (puts (but_last standard_infos_of)) (put_in_front (last_of standard_infos_of) (own_names x) refl (all_on_cards (own_names x) (own_weights x i)))
+standard_first x i = leading_first standard_infos_of (own_naming x).names refl (all_on_cards (own_names x) (own_weights x i))
 
 standard_names_first : (x : Phrase) → IsPlaced x → name_places (program_of x) ≡ standard_places ++ map (λ (i : NameInfo). i.place) (own_names x)
 standard_names_first x i = ap (map (λ (j : NameInfo). j.place)) (standard_first x i) ∙ map-append (λ (j : NameInfo). j.place) standard_infos_of (own_names x)

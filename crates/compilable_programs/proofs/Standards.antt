@@ -1,5 +1,5 @@
 -- A name of a standard procedure stands in a statement.
-use Rattle.std.proofs.Common.{◌≡◌, ℕ, List, [], ◌∷◌, ◌++◌, refl, sym, subst, ◌∙◌, inl, inr, ◌⊎◌}
+use Rattle.std.proofs.Common.{◌≡◌, ℕ, List, [], ◌∷◌, ◌++◌, refl, sym, subst, ◌∙◌, inl, inr}
 use Rattle.std.proofs.lemmas.Bool.{or_cases}
 use Rattle.std.specs.Prelude.{Option, Some, None, Bool, true, false, ◌&&◌}
 use Rattle.value_ops.specs.declared.places.Place.{Place}
@@ -79,11 +79,9 @@ module _ (more : List Info) where
 
   told_one : (places : List Place) (p : Place) → are_told places ≡ true → has places p ≡ true → is_told p ≡ true
   told_one [] p a h = absurd (cc h)
-  told_one (q ∷ places) p a h = by (or_cases (is_place q p) (has places p) h)
-    where
-      by : (is_place q p ≡ true) ⊎ (has places p ≡ true) → is_told p ≡ true
-      by (inl e) = subst (λ x. is_told x ≡ true) (place_read q p e) (both_true (is_told q) (are_told places) a).0
-      by (inr e) = told_one places p (both_true (is_told q) (are_told places) a).1 e
+  told_one (q ∷ places) p a h =
+      let both = both_true (is_told q) (are_told places) a in
+      elim (or_cases (is_place q p) (has places p) h) [ inl e ↦ subst (λ x. is_told x ≡ true) (place_read q p e) both.0 | inr e ↦ told_one places p both.1 e ]
 
   -- so it is at each place of the table
   all_told : are_told standard_procedures ≡ true

@@ -1,30 +1,28 @@
 -- That each phrase that counts a step when it is begun is a statement, and that each record class that is declared or follows IS is one of the
 -- program's.
-use Rattle.std.specs.Prelude.{◌≡◌, ⊤, ℕ, suc, List, [], ◌∷◌, Option, Some, None, Bool, true, false}
+use Rattle.std.specs.Prelude.{◌≡◌, ⊤, List, map, filter, Option, Some, None, Bool, true, false}
 use Rattle.value_ops.specs.declared.places.Place.{Place}
 use Rattle.algolw_tree.specs.declared.standard.Standard.{Standard}
 use Rattle.algolw_tree.specs.declared.standard.Standard.TheVariants as standard
-use Rattle.algolw_tree.specs.Standards.{StandardNames, standard_table}
+use Rattle.algolw_typing.specs.Names.{Entry}
 use Rattle.algolw_typing.specs.Types.{has}
+use Rattle.algolw_typing.specs.Meanings.{Meaning, a_standard}
+use Rattle.algolw_typing.specs.Scopes.{Known, standard_scope}
 use Rattle.algolw_typing.specs.Typed as typed
 
-abbrev pub standard_place : ℕ → Place
-standard_place n = record { card = 0; column = n }
-
--- a procedure has no value
+-- a standard procedure has no value
 abbrev pub is_procedure : Standard → Bool
 is_procedure (standard.Function op) = false
 is_procedure standard.MaxInteger = false
 is_procedure s = true
 
--- the places of the procedures among names that stand from this column on
-abbrev pub procedures_from : ℕ → StandardNames → List Place
-procedures_from n [] = []
-procedures_from n (x ∷ names) = elim (is_procedure x.1) [ true ↦ standard_place n ∷ procedures_from (suc n) names | false ↦ procedures_from (suc n) names ]
+abbrev pub means_procedure : Option Meaning → Bool
+means_procedure (Some (a_standard s)) = is_procedure s
+means_procedure m = false
 
 -- the standard procedures, by their places
 abbrev pub standard_procedures : List Place
-standard_procedures = procedures_from 1 standard_table
+standard_procedures = map (λ e. e.place) (filter (λ (e : Entry Known). means_procedure e.is.means) standard_scope)
 
 abbrev pub IsStatement : Option Place → Type 0
 IsStatement None = ⊥

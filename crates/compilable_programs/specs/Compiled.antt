@@ -1,17 +1,17 @@
 -- What a program is that may be compiled. A program without faults that tokens spell is one.
-use Rattle.std.specs.Prelude.{◌≡◌, ℕ, suc, ◌<◌, List, [], ◌∷◌, ◌++◌, map, length, false, true}
+use Rattle.std.specs.Prelude.{◌≡◌, ℕ, ◌<◌, List, [], ◌++◌, map, length, false, true}
 use Rattle.std.specs.List.{All}
 use Rattle.value_ops.specs.declared.places.Place.{Place}
 use Rattle.algolw_tree.specs.declared.programs.Program.{Program}
-use Rattle.algolw_tree.specs.Standards.{StandardNames, standard_table}
 use Rattle.algolw_typing.specs.Types.{has}
+use Rattle.algolw_typing.specs.Scopes.{standard_scope}
 use Rattle.algolw_typing.specs.Known.{Knows}
 use Rattle.algolw_typing.specs.Naming.{Class}
 use Rattle.algolw_typing.specs.ProgramView.{HoldsProgram, numbered, nowhere}
 use Rattle.algolw_typing.specs.Programs.{TypedProgram}
 use Rattle.program_meaning.specs.Translating.{text_at, program_phrase}
 use Rattle.program_soundness.specs.Tables.{all_infos, are_apart}
-use Rattle.compilable_programs.specs.Begun.{Begun, standard_place}
+use Rattle.compilable_programs.specs.Begun.{Begun}
 use Rattle.compilable_programs.specs.Suits.{Suits}
 
 abbrev pub name_places : TypedProgram → List Place
@@ -20,14 +20,9 @@ name_places x = map (λ i. i.place) x.names
 abbrev pub class_places : TypedProgram → List Place
 class_places x = map (λ c. c.place) x.classes
 
--- the places of names that stand from this column on
-abbrev pub places_from : ℕ → StandardNames → List Place
-places_from n [] = []
-places_from n (x ∷ names) = standard_place n ∷ places_from (suc n) names
-
 -- the places of the names of every deck
 abbrev pub standard_places : List Place
-standard_places = places_from 1 standard_table
+standard_places = map (λ e. e.place) standard_scope
 
 -- no two of these places are one
 abbrev pub AreApart : List Place → Type 0

@@ -1,5 +1,5 @@
 -- Names with lists behind them fit, by what the names mean.
-use Rattle.std.proofs.Common.{◌≡◌, ℕ, ℤ, List, [], ◌∷◌, refl, sym, subst, ap, ◌∙◌, arith}
+use Rattle.std.proofs.Common.{◌≡◌, ℕ, ℤ, List, [], ◌∷◌, refl, sym, subst, ap, ◌∙◌}
 use Rattle.std.proofs.lemmas.Option.{slice_get-map}
 use Rattle.std.specs.Option.{option_map}
 use Rattle.std.specs.Prelude.{Option, Some, None, true, false, slice_get}
@@ -10,7 +10,7 @@ use Rattle.algolw_tree.specs.declared.standard.Standard.TheVariants as standard
 use Rattle.algolw_tree.specs.declared.standard.Basic.TheVariants as basic
 use Rattle.algolw_tree.specs.Standards as standards
 use Rattle.algolw_typing.specs.Names.{Entry}
-use Rattle.algolw_typing.specs.Types.{ValueType, Gives, Statement, Simple, Integer, Logical, Bits, Str, Reference}
+use Rattle.algolw_typing.specs.Types.{ValueType, Gives, Statement, Simple, Str, Reference}
 use Rattle.algolw_typing.specs.Verdicts.{Verdict, Good}
 use Rattle.algolw_typing.specs.Meanings as typing
 use Rattle.algolw_typing.specs.Meanings.{Part, FormalType, base_row, no_base, gives_of, standard_row, basic_type}
