@@ -20,7 +20,7 @@ use Rattle.program_meaning.specs.Translating.{first_of, given_of, name_at, named
 use Rattle.program_soundness.proofs.Variables.{some_inj}
 use Rattle.phrase_code.specs.Coding as coding
 use Rattle.phrase_code.specs.Coding.{◌▸◌, Stand, element_code, named_code, one, stand_at}
-use Rattle.compilable_programs.specs.Begun.{StatementIf, standard_procedures}
+use Rattle.compilable_programs.specs.Begun.{StatementIf, is_procedure, standard_procedures}
 use Rattle.compilable_programs.specs.Suits.{Suits}
 use Rattle.stack_code.specs.Code as code
 use Rattle.stack_code.specs.CodeView.{InstrFits, class_place, class_view, kind_view, mode_view}
@@ -114,16 +114,16 @@ module _ (s : Scene) (node : Node) (name : ℕ) (here : Here) (u : Mode) (n : �
   function_suits : (op : UnaryOp) → Suits (sizes_known s) (named_as s node name (standing.Standard (standard.Function op)) (typed.list_and (typed.OfActuals q given) rest)) → Suits (sizes_known s) first × PartsSuit (Some 1) s rest
   function_suits op h = ((parts_suit (sizes_known s) (phrase_context s) 1 (phrases.Unary op first) rest h).0, parts_after (sizes_known s) (phrase_context s) 1 (phrases.Unary op first) rest h)
 
-  pub planned_suits : (x : Standing) (plan : ListPlan) → StandsAt s (place_of s name) x → list_plan here u x n ≡ Some plan → Suits (sizes_known s) (named_as s node name x (typed.list_and (typed.OfActuals q given) rest)) → Suit plan
-  planned_suits (standing.Array t e) plan there h k = by_plan Suit _ plan h (string_suits t (phrases.Element (phrases.Named (at s name)) (given_of (phrase_context s) given)) k)
-  planned_suits (standing.Class c) plan there h k = by_plan Suit _ plan h (k, tt)
-  planned_suits (standing.Field c i t) plan there h k = by_plan Suit _ plan h (string_suits t (phrases.Field (class_place s.given c) i first) k)
-  planned_suits (standing.Standard (standard.Function op)) plan there h k = by_plan Suit _ plan h (function_suits op k)
-  planned_suits (standing.Standard (standard.Read on)) plan there h k = by_plan Suit _ plan h (k, tt)
-  planned_suits (standing.Standard standard.ReadCard) plan there h k = by_plan Suit _ plan h (k, tt)
-  planned_suits (standing.Standard (standard.Write start)) plan there h k = by_plan Suit _ plan h (k, tt)
-  planned_suits (standing.Standard standard.IoControl) plan there h k = by_plan Suit _ plan h (k, tt)
-  planned_suits x plan there h k = absurd (cc h)
+  pub planned_suits : (x : Standing) (plan : ListPlan) → list_plan here u x n ≡ Some plan → Suits (sizes_known s) (named_as s node name x (typed.list_and (typed.OfActuals q given) rest)) → Suit plan
+  planned_suits (standing.Array t e) plan h k = by_plan Suit _ plan h (string_suits t (phrases.Element (phrases.Named (at s name)) (given_of (phrase_context s) given)) k)
+  planned_suits (standing.Class c) plan h k = by_plan Suit _ plan h (k, tt)
+  planned_suits (standing.Field c i t) plan h k = by_plan Suit _ plan h (string_suits t (phrases.Field (class_place s.given c) i first) k)
+  planned_suits (standing.Standard (standard.Function op)) plan h k = by_plan Suit _ plan h (function_suits op k)
+  planned_suits (standing.Standard (standard.Read on)) plan h k = by_plan Suit _ plan h (k, tt)
+  planned_suits (standing.Standard standard.ReadCard) plan h k = by_plan Suit _ plan h (k, tt)
+  planned_suits (standing.Standard (standard.Write start)) plan h k = by_plan Suit _ plan h (k, tt)
+  planned_suits (standing.Standard standard.IoControl) plan h k = by_plan Suit _ plan h (k, tt)
+  planned_suits x plan h k = absurd (cc h)
 
 -- ---- the code
 
@@ -239,6 +239,10 @@ module _ (a b : Emitter) (m : ℕ) (fits : EmitterFits a) (here : Here) (u : Mod
   write_planned : (start : Bool) → has standard_procedures (place_of s name) ≡ true → IsPlanned (standing.Standard (standard.Write start)) (names.transfer (list.Write start))
   write_planned start h = begun_planned (standing.Standard (standard.Write start)) (Some (list.Write start)) held.Nothing (λ c w. one w instr.Begin ▸ coding.code_writes c w start (next a + 1) gs ▸ one w instr.Nothing) (phrases.Write st start gs) h (λ ts. refl) (λ ts. refl) refl (λ rest. refl)
 
+  -- a standard procedure stands at a place of these
+  procedure_there : {k : Standard} → standing.Standard k ≡ x → is_procedure k ≡ true → has standard_procedures (place_of s name) ≡ true
+  procedure_there o = subst (StandsAt s (place_of s name)) (sym o) there
+
   pub planned : (y : Standing) → y ≡ x → (plan : ListPlan) → list_plan here u y (phrase_count actuals) ≡ Some plan → IsPlanned y plan
   planned (standing.Array t e) o plan h = by_plan (IsPlanned (standing.Array t e)) _ plan h (array_planned t e (is ∙ sym o))
   planned (standing.Class c) o plan h =
@@ -246,14 +250,14 @@ module _ (a b : Emitter) (m : ℕ) (fits : EmitterFits a) (here : Here) (u : Mod
       (record_planned c (subst (StandingFits s) (is ∙ sym o) (standing_fits s fits.scene name)) (subst (StandsAt s (place_of s name)) (sym o) there))
   planned (standing.Field c i t) o plan h = by_plan (IsPlanned (standing.Field c i t)) _ plan h (field_planned c i t)
   planned (standing.Standard (standard.Function op)) o plan h = by_plan (IsPlanned (standing.Standard (standard.Function op))) _ plan h (function_planned op)
-  planned (standing.Standard (standard.Read on)) o plan h = by_plan (IsPlanned (standing.Standard (standard.Read on))) _ plan h (read_planned on (subst (StandsAt s (place_of s name)) (sym o) there))
-  planned (standing.Standard (standard.Write start)) o plan h = by_plan (IsPlanned (standing.Standard (standard.Write start))) _ plan h (write_planned start (subst (StandsAt s (place_of s name)) (sym o) there))
+  planned (standing.Standard (standard.Read on)) o plan h = by_plan (IsPlanned (standing.Standard (standard.Read on))) _ plan h (read_planned on (procedure_there o refl))
+  planned (standing.Standard (standard.Write start)) o plan h = by_plan (IsPlanned (standing.Standard (standard.Write start))) _ plan h (write_planned start (procedure_there o refl))
   planned (standing.Standard standard.ReadCard) o plan h =
       by_plan (IsPlanned (standing.Standard standard.ReadCard)) _ plan h
-      (begun_planned (standing.Standard standard.ReadCard) (Some list.ReadCard) held.Nothing (λ c w. one w instr.Begin ▸ coding.code_cards c w (next a + 1) (targets_of (phrase_context s) given) ▸ one w instr.Nothing) (phrases.ReadCard st (targets_of (phrase_context s) given)) (subst (StandsAt s (place_of s name)) (sym o) there) (λ ts. refl) (λ ts. refl) refl (λ rest. refl))
+      (begun_planned (standing.Standard standard.ReadCard) (Some list.ReadCard) held.Nothing (λ c w. one w instr.Begin ▸ coding.code_cards c w (next a + 1) (targets_of (phrase_context s) given) ▸ one w instr.Nothing) (phrases.ReadCard st (targets_of (phrase_context s) given)) (procedure_there o refl) (λ ts. refl) (λ ts. refl) refl (λ rest. refl))
   planned (standing.Standard standard.IoControl) o plan h =
       by_plan (IsPlanned (standing.Standard standard.IoControl)) _ plan h
-      (begun_planned (standing.Standard standard.IoControl) None held.IoControl (λ c w. one w instr.Begin ▸ coding.code c w instr.the_value (next a + 1) (first_of gs) ▸ one w instr.IoControl) (phrases.IoControl st (first_of gs)) (subst (StandsAt s (place_of s name)) (sym o) there) (λ ts. refl) (λ ts. refl) refl (λ rest. refl))
+      (begun_planned (standing.Standard standard.IoControl) None held.IoControl (λ c w. one w instr.Begin ▸ coding.code c w instr.the_value (next a + 1) (first_of gs) ▸ one w instr.IoControl) (phrases.IoControl st (first_of gs)) (procedure_there o refl) (λ ts. refl) (λ ts. refl) refl (λ rest. refl))
   planned y o plan h = absurd (cc h)
 
 -- ---- a name with its lists
@@ -263,7 +267,7 @@ pub planned_ready : (e : Emitter) (here : Here) (u : Mode) (node : Node) (name :
 planned_ready e here u node name lists actuals rest n plan parted h r =
     let x : Standing = standing_of e.symbols.names name in
     let ready = lists_ready e node name x lists refl r in
-    let suit = planned_suits (scene e) node name here u n (parted (numbers_in (scene e))).0 (actuals_in (numbers_in (scene e)) actuals) (lists_in (numbers_in (scene e)) rest) x plan (stands_there (scene e) r.fits.scene name) h (split_suits e lists actuals rest parted (NamedSuit node name x) ready) in
+    let suit = planned_suits (scene e) node name here u n (parted (numbers_in (scene e))).0 (actuals_in (numbers_in (scene e)) actuals) (lists_in (numbers_in (scene e)) rest) x plan h (split_suits e lists actuals rest parted (NamedSuit node name x) ready) in
     (actuals_ready e lists actuals rest parted (NamedSuit node name x) ready (ListedSuits plan.list) suit.0, behind_ready e lists actuals rest parted (NamedSuit node name x) ready (PartsSuit plan.whole) suit.1)
 
 pub applied_done : {a b d : Emitter} {m k : ℕ} (here : Here) (u : Mode) (node : Node) (name : ℕ) (lists : List TypedList) (actuals : List TypedActual) (rest : List TypedList) (plan : ListPlan) → AreParted lists actuals rest → list_plan here u (standing_of a.symbols.names name) (phrase_count actuals) ≡ Some plan → IsCodable a (named_node node name lists) → CodesPlan a b (plan_here plan.begins here node.statement) plan actuals m → ContinuesParts b d here plan.whole rest m k → CodesNode a d here u (named_node node name lists) k

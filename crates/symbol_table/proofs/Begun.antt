@@ -1,18 +1,16 @@
 -- A table in which nothing is declared but what every deck has.
-use Rattle.std.proofs.Common.{◌≡◌, ℕ, zero, suc, ◌+◌, ◌-◌, ◌<◌, ◌≤◌, ◌==◌, List, [], ◌∷◌, ◌++◌, length, replicate, Bool, true, false, refl, sym, ap, ◌∙◌, subst, arith, append_assoc, slice_index_or}
+use Rattle.std.proofs.Common.{◌≡◌, ℕ, zero, suc, ◌+◌, ◌-◌, ◌<◌, ◌≤◌, ◌==◌, List, [], ◌∷◌, ◌++◌, length, replicate, Bool, true, false, refl, sym, ap, ◌∙◌, subst, arith, append_assoc, drop, get_or, slice_index_or}
 use Rattle.std.proofs.lemmas.Bool.{eqb-true, eq-eqb, false_from_ne_true}
-use Rattle.std.proofs.lemmas.List.{length-append}
+use Rattle.std.proofs.lemmas.List.{drop_more, length-append}
 use Rattle.std.proofs.lemmas.List.Elements.{All-nil}
-use Rattle.algolw_tree.specs.Standards.{StandardNames, standard_table}
+use denote.Ref.{Bor}
+use Rattle.algolw_tree.specs.declared.standard.Standard.{Standard}
+use Rattle.algolw_tree.specs.Standards.{StandardNames, spelled, standard_table}
 use Rattle.symbol_table.specs.declared.standings.Standing.{Standing}
 use Rattle.symbol_table.specs.declared.standings.Standing.TheVariants as standing
-use Rattle.symbol_table.specs.Standings.{IsTable, Names, every_name, names_from, standard_count, standing_of}
+use Rattle.symbol_table.specs.Standings.{IsTable, Names, every_name, names_from, standard_count, standing_of, standings_of}
 
 -- what every deck has, in order
-abbrev standings_of : StandardNames → List Standing
-standings_of [] = []
-standings_of (x ∷ names) = standing.Standard x.1 ∷ standings_of names
-
 abbrev pub every_standing : List Standing
 every_standing = standings_of standard_table
 
@@ -57,3 +55,11 @@ begun_more now more l e h =
     let next : suc (length now - standard_count) ≡ length more - standard_count = omega (arith, n) in
     h ∙ ap (λ xs. xs ++ standing.Unknown ∷ []) e ∙ append_assoc every_standing (replicate (length now - standard_count) standing.Unknown) (standing.Unknown ∷ [])
     ∙ ap (λ xs. every_standing ++ xs) (one_more_unknown (length now - standard_count) ∙ ap (λ k. replicate k standing.Unknown) next)
+
+-- one of the names of every deck more
+pub standard_more : (names : List (Bor (List ℕ) × Standard)) (i : ℕ) (d : Bor (List ℕ) × Standard) (now more : List Standing) → i < length names → more ≡ now ++ standing.Standard (get_or names i d).1 ∷ [] → now ++ standings_of (spelled (drop i names)) ≡ standings_of (spelled names)
+    → more ++ standings_of (spelled (drop (i + 1) names)) ≡ standings_of (spelled names)
+standard_more names i d now more l h e =
+    let s : Standing = standing.Standard (get_or names i d).1 in
+    let rest = standings_of (spelled (drop (i + 1) names)) in
+    ap (λ xs. xs ++ rest) h ∙ append_assoc now (s ∷ []) rest ∙ ap (λ (xs : List (Bor (List ℕ) × Standard)). now ++ standings_of (spelled xs)) (sym (drop_more names i d l)) ∙ e

@@ -12,7 +12,6 @@ use Rattle.algolw_tree.specs.declared.programs.TypedClass.{TypedClass}
 use Rattle.algolw_tree.specs.declared.programs.TypedDecl.{TypedDecl, Simple, Array', Proc, Class}
 use Rattle.algolw_tree.specs.declared.programs.TypedItem.{TypedItem}
 use Rattle.algolw_tree.specs.declared.standard.Standard.{Standard}
-use Rattle.algolw_tree.specs.declared.standard.Standard.TheVariants as standard
 use Rattle.algolw_tree.specs.Standards.{StandardNames, standard_table}
 use Rattle.algolw_typing.specs.ProgramView.{numbered}
 use Rattle.algolw_typing.specs.Types.{has}
@@ -30,12 +29,16 @@ use Rattle.symbol_table.specs.declared.standings.Entry.{Entry}
 use Rattle.symbol_table.specs.declared.standings.Standing.{Standing}
 use Rattle.symbol_table.specs.declared.standings.Standing.TheVariants as standing
 use Rattle.symbol_table.specs.Blocks.{all_names, behind, block_names, class_names, decl_names, decls_names, entry_count, entry_names, field_count, field_names, first_cursor, group_names, label_names, named_procedure, procedure_count, procedure_standing}
-use Rattle.symbol_table.specs.Contexts.{Scene, SceneFits, StandardAt, StandsAt, numbers_in, place_of}
+use Rattle.symbol_table.specs.Contexts.{Scene, SceneFits, StandsAt, numbers_in, place_of}
 use Rattle.symbol_table.specs.Parts.{item_labels}
 use Rattle.symbol_table.specs.Standings.{Names, every_name, names_from, standing_of}
 use Rattle.symbol_table.specs.Symbols.{class_at, formal_names, formal_standing}
 use Rattle.symbol_table.proofs.Places.{numbered_place}
 use Rattle.symbol_table.proofs.Placing.{ClassOf, ClassesOf, IsClassOf}
+
+implied : (a b : Bool) → (not a || b) ≡ true → a ≡ true → b ≡ true
+implied true b h e = h
+implied false b h e = absurd (cc e)
 
 module _ (s : Scene) where
   abbrev pub There : ℕ × Standing → Type 0
@@ -114,19 +117,11 @@ module _ (s : Scene) where
     at_number : (n : ℕ) → has standard_procedures (numbered (standard_places ++ others) n) ≡ true → has standard_procedures (place_of s n) ≡ true
     at_number n h = subst (λ (p : Place). has standard_procedures p ≡ true) (ap (λ (places : List Place). numbered places n) (sym e) ∙ numbered_place s n) h
 
-    one_there : (n : ℕ) (k : Standard) → is_there n k ≡ true → StandardAt (place_of s n) k
-    one_there n (standard.Function op) h = tt
-    one_there n standard.MaxInteger h = tt
-    one_there n (standard.Read next) h = at_number n h
-    one_there n standard.ReadCard h = at_number n h
-    one_there n (standard.Write first) h = at_number n h
-    one_there n standard.IoControl h = at_number n h
-
     names_there : (n : ℕ) (names : StandardNames) → are_there n names ≡ true → AllByRecursion There (names_from n names)
     names_there n [] h = tt
     names_there n (x ∷ names) h =
         let both = both_true (is_there n x.1) (are_there (suc n) names) h in
-        (one_there n x.1 both.0, names_there (suc n) names both.1)
+        (λ i. at_number n (implied (is_procedure x.1) (has standard_procedures (numbered (standard_places ++ others) n)) both.0 i), names_there (suc n) names both.1)
 
     -- what every deck has
     pub every_there : All There every_name

@@ -7,8 +7,6 @@ use Rattle.record_classes.specs.Classes.{class_of}
 use Rattle.algolw_tree.specs.declared.programs.NameInfo.{NameInfo}
 use Rattle.algolw_tree.specs.declared.programs.TypedDecl.{TypedDecl}
 use Rattle.algolw_tree.specs.declared.programs.TypedItem.{TypedItem}
-use Rattle.algolw_tree.specs.declared.standard.Standard.{Standard}
-use Rattle.algolw_tree.specs.declared.standard.Standard.TheVariants as standard
 use Rattle.algolw_typing.specs.Typed as typed
 use Rattle.algolw_typing.specs.Types.{has}
 use Rattle.algolw_typing.specs.ProgramView.{Numbers, nowhere}
@@ -21,7 +19,7 @@ use Rattle.stack_code.specs.CodeView.{Given, FormalFits, KindFits, KindsFit, cla
 use Rattle.stack_code.specs.Linking.{instruction_at}
 use Rattle.stack_code.specs.declared.heads.CodedName.{CodedName}
 use Rattle.stack_code.specs.declared.heads.Formal.{Formal}
-use Rattle.compilable_programs.specs.Begun.{standard_procedures}
+use Rattle.compilable_programs.specs.Begun.{is_procedure, standard_procedures}
 use Rattle.compilable_programs.specs.Compiled.{AreApart}
 use Rattle.symbol_table.specs.declared.here.Here.{Here}
 use Rattle.symbol_table.specs.declared.standings.Entry.{Entry}
@@ -106,16 +104,10 @@ StandingFits s (standing.Class c) = (c.class.0 < length s.given.class_places) ×
 StandingFits s (standing.Field c n t) = (c.0 < length s.given.class_places) × KindFits s.given t
 StandingFits s x = ⊤
 
--- a standard procedure stands at a place of these
-abbrev pub StandardAt : Place → Standard → Type 0
-StandardAt p (standard.Function op) = ⊤
-StandardAt p standard.MaxInteger = ⊤
-StandardAt p n = has standard_procedures p ≡ true
-
--- a class stands where the class of its number does
+-- a class stands where the class of its number does, and a standard procedure at a place of these
 abbrev pub StandsAt : Scene → Place → Standing → Type 0
 StandsAt s p (standing.Class c) = class_place s.given c.class ≡ p
-StandsAt s p (standing.Standard n) = StandardAt p n
+StandsAt s p (standing.Standard n) = is_procedure n ≡ true → has standard_procedures p ≡ true
 StandsAt s p x = ⊤
 
 -- no name is declared twice

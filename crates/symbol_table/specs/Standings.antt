@@ -25,6 +25,11 @@ abbrev pub names_from : ℕ → StandardNames → Names
 names_from n [] = []
 names_from n (x ∷ names) = (n, standing.Standard x.1) ∷ names_from (suc n) names
 
+-- what they stand for, one by one
+abbrev pub standings_of : StandardNames → List Standing
+standings_of [] = []
+standings_of (x ∷ names) = standing.Standard x.1 ∷ standings_of names
+
 -- the names of every deck; the first of them is the newest
 abbrev pub every_name : Names
 every_name = names_from 0 standard_table

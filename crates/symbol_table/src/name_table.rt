@@ -1,10 +1,26 @@
 ghost use Rattle.std.specs.Prelude.{◌≡◌, ◌∷◌, ◌-◌, ◌<◌, ◌≤◌, IfOk, OnErr, OnOk, drop, length, max};
-ghost use Rattle.symbol_table.specs.Standings.{every_name, standard_count, standing_of};
+ghost use Rattle.algolw_tree.specs.Standards.{spelled};
+ghost use Rattle.symbol_table.specs.Standings.{every_name, standard_count, standing_of, standings_of};
 
 use crate::standings::Standing;
-use algolw_tree::STANDARD;
+use algolw_tree::{STANDARD, Standard};
 use std::alloc::{AllocError, Global};
 use std::marker::Model;
+
+/// What these names of every deck stand for, in order, with room for so many.
+fn standard_standings(
+    alloc: Global,
+    names: &[(&[u8], Standard)],
+    count: usize,
+) -> Result<Vec<Standing>, AllocError>
+    ensures { IfOk result (λ standings. standings.items ≡ standings_of (spelled names.now)) }
+{
+    let mut standings = Vec::with_capacity(alloc, count)?;
+    for (_, standard) in names {
+        standings.push(Standing::Standard(*standard))?;
+    }
+    Ok(standings)
+}
 
 /// What each name stands for, by its number.
 #[derive(Drop)]
@@ -31,10 +47,7 @@ impl NameTable {
     pub fn new(alloc: Global, count: usize) -> Result<NameTable, AllocError>
         ensures { IfOk result (λ t. t ≡ record { names = every_name; count = max standard_count count }) }
     {
-        let mut standings = Vec::with_capacity(alloc, count)?;
-        for (_, standard) in STANDARD {
-            standings.push(Standing::Standard(standard))?;
-        }
+        let mut standings = standard_standings(alloc, &STANDARD, count)?;
         while standings.len() < count {
             standings.push(Standing::Unknown)?;
         }

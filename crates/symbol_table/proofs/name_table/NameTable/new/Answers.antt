@@ -8,11 +8,11 @@ use Rattle.symbol_table.proofs.name_table.NameTable.new.Goals as goal
 pub loop-standings-preserved : goal.loop-standings-preserved
 loop-standings-preserved c =
     let now = c.loop-standings.standings.items in
-    let n : length c.push-in-loop-standings.new.self.items ≡ length now + 1 = ap length c.in_ok-push-2.ensures.items ∙ length-append now (standing.Unknown ∷ []) in
+    let n : length c.push.new.self.items ≡ length now + 1 = ap length c.in_ok-push.ensures.items ∙ length-append now (standing.Unknown ∷ []) in
     record {
       many = omega (arith, n, c.loop-standings.invariant.many);
       few = omega (arith, n, c.loop-standings-test.true, c.len.ensures);
-      begun = begun_more now c.push-in-loop-standings.new.self.items c.loop-standings.invariant.many c.loop-standings.invariant.begun c.in_ok-push-2.ensures.items;
+      begun = begun_more now c.push.new.self.items c.loop-standings.invariant.many c.loop-standings.invariant.begun c.in_ok-push.ensures.items;
     }
 
 pub invariant_of-result : goal.invariant_of-result

@@ -1,11 +1,8 @@
-use Rattle.std.proofs.Common.{◌≡◌, ◌-◌, ◌++◌, ◌≤◌, drop, length, map, max, replicate}
+use Rattle.std.proofs.Common.{◌≡◌, ◌-◌, ◌++◌, ◌≤◌, length, max, replicate}
 use Rattle.symbol_table.specs.declared.standings.Standing.TheVariants as standing
 use Rattle.symbol_table.specs.Standings.{standard_count}
 use Rattle.symbol_table.proofs.Begun.{every_standing}
 use Rattle.symbol_table.proofs.name_table.NameTable.new.Given as goal
-
-abbrev pub invariant-loop-standard : goal.invariant-loop-standard
-invariant-loop-standard l = l.standings.items ++ map (λ x. standing.Standard x.1) (drop l.standard-index l.standard-items) ≡ map (λ x. standing.Standard x.1) l.standard-items
 
 abbrev pub invariant-loop-standings : goal.invariant-loop-standings
 invariant-loop-standings l = record {
