@@ -10,4 +10,5 @@ pub mod Prospects
 pub mod Answers
 pub mod Arrivals
 pub mod Kept
+pub mod Posted
 pub mod Laws

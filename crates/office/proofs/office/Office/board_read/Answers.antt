@@ -1,0 +1,14 @@
+use Rattle.std.proofs.Common.{◌∙◌, sym}
+use Rattle.office.proofs.Posting.{read_is, read_there, shows_read}
+use Rattle.office.proofs.office.Office.board_read.Goals as goal
+
+pub invariant_of-self : goal.invariant_of-self
+invariant_of-self g c = (c.self.invariant.0, shows_read _ c.self.inside.register c.self.inside.posting c.read.new.posting c.read.result c.self.invariant.1 c.read.ensures)
+
+pub returns-clause-some : goal.returns-clause-some
+returns-clause-some g c =
+    let there = read_there _ c.self.inside.register c.self.inside.posting c.read.new.posting c.read.result c.self.invariant.1 c.read.ensures in
+    (λ some. sym there ∙ some, λ boarded. there ∙ boarded)
+
+pub returns-clause-tallies : goal.returns-clause-tallies
+returns-clause-tallies g c = read_is _ c.self.inside.register c.self.inside.posting c.read.new.posting c.read.result c.self.invariant.1 c.read.ensures
