@@ -8,7 +8,7 @@ use Rattle.batch_core.specs.Core.{Core, start}
 use Rattle.batch_core.specs.Events.{Allowed, Legal, replay, step}
 use Rattle.operator_board.specs.declared.tallies.Tallies.{Tallies}
 use Rattle.operator_board.specs.declared.rule.BoardView.{BoardView}
-use Rattle.operator_board.specs.Tallies.{tallies}
+use Rattle.operator_board.specs.Tallies.{AddsUp, tallies}
 use Rattle.operator_board.specs.Rule.{state_of, with_event}
 use Rattle.office.specs.declared.posting.Posting.{Posting}
 use Rattle.office.specs.Posted.{HasPosted, IsPosted, LacksNewest, Shows}
@@ -94,3 +94,8 @@ read_there boarded r (Some p) new found was m = ap is_some m.3 ∙ was.there
 pub read_is : (boarded : Bool) (r : RegisterView) (old new : Option Posting) (found : Option Tallies) → Shows boarded r old → Reading old new found → IfSome found (λ t. t ≡ tallies r.journal)
 read_is boarded r None new found was m = subst (λ (o : Option Tallies). IfSome o (λ t. t ≡ tallies r.journal)) (sym m.1) tt
 read_is boarded r (Some p) new found was m = subst (λ (o : Option Tallies). IfSome o (λ t. t ≡ tallies r.journal)) (sym m.3) (ap tallies was.posted.events_are)
+
+pub read_adds_up : (boarded : Bool) (r : RegisterView) (old new : Option Posting) (found : Option Tallies) → Shows boarded r old → Reading old new found → AddsUp (tallies r.journal) → IfSome found AddsUp
+read_adds_up boarded r None new found was m up = subst (λ (o : Option Tallies). IfSome o AddsUp) (sym m.1) tt
+read_adds_up boarded r (Some p) new found was m up =
+    subst (λ (o : Option Tallies). IfSome o AddsUp) (sym m.3) (subst (λ (events : List Event). AddsUp (tallies events)) (sym was.posted.events_are) up)

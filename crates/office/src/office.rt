@@ -141,6 +141,7 @@ impl<B: OfficeBrand> Office<B> {
     pub fn board_read<R: Wait>(&mut self, rt: &R) -> Option<Tallies>
         ensures some { IsSome result ↔ IsTrue B.boarded }
         ensures tallies { IfSome result (λ t. t ≡ counting.tallies self.old.register.journal) }
+        ensures adds_up { IfSome result (λ t. counting.AddsUp t) }
         ensures same { self.new ≡ self.old }
     {
         read(rt, &mut self.posting)

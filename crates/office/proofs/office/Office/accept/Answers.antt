@@ -31,8 +31,7 @@ invariant_of-self g c =
     let put = ap (λ (v : PassView). v.put) c.in-Ok.ensures.put in
     let may = subst (λ (o : OfficeView). MayAccept o.register.core) (sym c.self.view_is) c.requires.may in
     let next = c.requires.ticket ∙ ap (λ (o : OfficeView). next_ticket o.register) (sym c.self.view_is) in
-    let small = subst (λ (tickets : List Ticket). amount_of tickets < 2 ^ 62) put c.in-Ok.ensures.amounts in
-    (
+    let small = subst (λ (tickets : List Ticket). amount_of tickets < 2 ^ 62) put c.in-Ok.ensures.amounts in (
       kept_same _ _ _ _
           (same_office _ _ _ _ _ _ _ c.accept.ensures (ap slips put ∙ map_push (λ (t : Ticket). slip t.number t.amount) old ticket ∙ ap (λ (x : Slip). slips old ++ x ∷ []) next)
           (ap (λ (v : PassView). v.full) c.in-Ok.ensures.put) refl refl refl)

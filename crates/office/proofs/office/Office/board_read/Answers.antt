@@ -1,5 +1,6 @@
 use Rattle.std.proofs.Common.{◌∙◌, sym}
-use Rattle.office.proofs.Posting.{read_is, read_there, shows_read}
+use Rattle.operator_board.proofs.Counts.{legal_adds_up}
+use Rattle.office.proofs.Posting.{read_adds_up, read_is, read_there, shows_read}
 use Rattle.office.proofs.office.Office.board_read.Goals as goal
 
 pub invariant_of-self : goal.invariant_of-self
@@ -12,3 +13,8 @@ returns-clause-some g c =
 
 pub returns-clause-tallies : goal.returns-clause-tallies
 returns-clause-tallies g c = read_is _ c.self.inside.register c.self.inside.posting c.read.new.posting c.read.result c.self.invariant.1 c.read.ensures
+
+pub returns-clause-adds_up : goal.returns-clause-adds_up
+returns-clause-adds_up g c =
+    read_adds_up _ c.self.inside.register c.self.inside.posting c.read.new.posting c.read.result c.self.invariant.1 c.read.ensures
+    (legal_adds_up c.self.inside.register.core.openings c.self.inside.register.journal c.self.invariant.0.stands.register.legal)

@@ -12,8 +12,7 @@ post_newest-requires g c = lacks_newest (Refuse (c.self.inside.register.core.dec
 
 pub invariant_of-self : goal.invariant_of-self
 invariant_of-self g c =
-    let may = subst (λ (o : OfficeView). MayRefuse o.register.core) (sym c.self.view_is) c.requires in
-    (
+    let may = subst (λ (o : OfficeView). MayRefuse o.register.core) (sym c.self.view_is) c.requires in (
       kept_same _ _ _ _ (same_office _ _ _ _ _ _ _ c.refuse.ensures refl refl refl refl refl) refl (kept_refused _ (view c.self.inside.put.pass).put c.self.invariant.0 may),
       shows_on c.self.invariant.1 c.post_newest.ensures.there c.post_newest.ensures.posted,
     )

@@ -16,8 +16,7 @@ invariant_of-self g c =
     let s = c.self.inside in
     let number = c.number-number.result in
     let amount = c.amount-amount.result in
-    let running = subst (λ (job : JobView). IsRunning s.register number amount job) (c.deref.ensures ∙ c.job.ensures) (c.is_running.ensures.0 c.if-not-is_running.false) in
-    (
+    let running = subst (λ (job : JobView). IsRunning s.register number amount job) (c.deref.ensures ∙ c.job.ensures) (c.is_running.ensures.0 c.if-not-is_running.false) in (
       kept_same _ _ _ _ (same_office _ _ _ _ _ _ _ c.end.ensures.ended refl refl c.book.ensures.total refl refl) refl
           (kept_ended _ (view s.put.pass).put number amount c.args.ended c.self.invariant.0 running c.end.ensures.means),
       shows_on c.self.invariant.1 c.post_newest.ensures.there c.post_newest.ensures.posted,
