@@ -5,4 +5,4 @@ mod Running
 mod Slips
 mod Offices
 mod Exact
-mod Posting
+mod Boards

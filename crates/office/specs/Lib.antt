@@ -11,4 +11,5 @@ pub mod Answers
 pub mod Arrivals
 pub mod Kept
 pub mod Posted
+pub mod Shown
 pub mod Laws

@@ -2,6 +2,7 @@
 #![tactic(auto)]
 
 mod answers;
+mod board;
 mod brand;
 mod laws;
 mod office;

@@ -13,8 +13,9 @@ ghost use Rattle.office.specs.StandsFor.{StandsFor};
 ghost use Rattle.office.specs.Tickets.{slip};
 
 use crate::answers::{Admitted, ArriveError, Stranger};
+use crate::board::{post_newest, read};
 use crate::brand::OfficeBrand;
-use crate::posting::{Posting, post_newest, read};
+use crate::posting::Posting;
 use crate::prospect::Prospect;
 use crate::register::Register;
 use crate::standing::Standing;
@@ -46,7 +47,7 @@ impl<B: OfficeBrand> Model for Office<B> {
     ghost use Rattle.crossbeam_queue.specs.Passes as passes;
     ghost use Rattle.office.specs.Kept.{Kept};
     ghost use Rattle.office.specs.OfficeView.{OfficeView};
-    ghost use Rattle.office.specs.Posted.{Shows};
+    ghost use Rattle.office.specs.Shown.{Shows};
     ghost use Rattle.office.specs.Tickets.{slips};
 
     ghost Value = { OfficeView };

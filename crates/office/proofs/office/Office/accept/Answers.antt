@@ -10,7 +10,7 @@ use Rattle.batch_core.specs.Events.{MayAccept}
 use Rattle.office.specs.OfficeView.{OfficeView, next_ticket}
 use Rattle.office.specs.Tickets.{Slip, slip, slips}
 use Rattle.office.proofs.Offices.{adds_up, kept_accepted, kept_same, same_office}
-use Rattle.office.proofs.Posting.{lacks_newest, shows_on}
+use Rattle.office.proofs.Boards.{lacks_newest, shows_on}
 use Rattle.office.proofs.office.Office.accept.Goals as goal
 
 pub accept-requires-clause-fits : goal.accept-requires-clause-fits
@@ -22,7 +22,7 @@ accept-requires-clause-fits g c =
     omega (arith, put, more, sums, c.in-Ok.ensures.amounts, c.amount-reserve.ensures)
 
 pub post_newest-requires : goal.post_newest-requires
-post_newest-requires g c = lacks_newest (Accept (c.self.inside.register.core.decided + 1)) c.self.inside.posting c.accept.ensures refl refl c.self.invariant.1.posted
+post_newest-requires g c = lacks_newest c.self.inside.register _ _ (Accept (c.self.inside.register.core.decided + 1)) c.self.inside.posting c.accept.ensures refl refl c.self.invariant.1.posted
 
 pub invariant_of-self : goal.invariant_of-self
 invariant_of-self g c =

@@ -6,11 +6,11 @@ use Rattle.batch_core.specs.Claims.{claim_of_job}
 use Rattle.batch_core.specs.declared.event.Event.TheVariants.{Arrive}
 use Rattle.office.specs.Arrivals.{IsBelow}
 use Rattle.office.proofs.Offices.{fitting, kept_arrived, kept_same, same_office}
-use Rattle.office.proofs.Posting.{lacks_newest, shows_on, shows_same}
+use Rattle.office.proofs.Boards.{lacks_newest, shows_on, shows_same}
 use Rattle.office.proofs.office.Office.arrive.Goals as goal
 
 pub post_newest-requires : goal.post_newest-requires
-post_newest-requires g c = lacks_newest (Arrive (claim_of_job c.args.job.value)) c.self.inside.posting c.in-Ok.ensures.arrived refl refl c.self.invariant.1.posted
+post_newest-requires g c = lacks_newest c.self.inside.register _ _ (Arrive (claim_of_job c.args.job.value)) c.self.inside.posting c.in-Ok.ensures.arrived refl refl c.self.invariant.1.posted
 
 pub invariant_of-self : goal.invariant_of-self
 invariant_of-self g c =

@@ -1,6 +1,9 @@
-use Rattle.std.proofs.Common.{◌∙◌, sym}
+use Rattle.std.proofs.Common.{◌≡◌, ◌∙◌, sym, subst}
+use Rattle.std.specs.Prelude.{IfSome}
 use Rattle.operator_board.proofs.Counts.{legal_adds_up}
-use Rattle.office.proofs.Posting.{read_adds_up, read_is, read_there, shows_read}
+use Rattle.operator_board.specs.Tallies.{tallies}
+use Rattle.office.specs.OfficeView.{OfficeView}
+use Rattle.office.proofs.Boards.{read_adds_up, read_is, read_there, shows_read}
 use Rattle.office.proofs.office.Office.board_read.Goals as goal
 
 pub invariant_of-self : goal.invariant_of-self
@@ -12,7 +15,9 @@ returns-clause-some g c =
     (λ some. sym there ∙ some, λ boarded. there ∙ boarded)
 
 pub returns-clause-tallies : goal.returns-clause-tallies
-returns-clause-tallies g c = read_is _ c.self.inside.register c.self.inside.posting c.read.new.posting c.read.result c.self.invariant.1 c.read.ensures
+returns-clause-tallies g c =
+    subst (λ (o : OfficeView). IfSome c.read.result (λ t. t ≡ tallies o.register.journal)) c.self.view_is
+    (read_is _ c.self.inside.register c.self.inside.posting c.read.new.posting c.read.result c.self.invariant.1 c.read.ensures)
 
 pub returns-clause-adds_up : goal.returns-clause-adds_up
 returns-clause-adds_up g c =

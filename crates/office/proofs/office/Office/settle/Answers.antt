@@ -5,11 +5,11 @@ use Rattle.account_book.specs.Charges.{charge}
 use Rattle.office.specs.Standings.{IsRunning}
 use Rattle.batch_core.specs.declared.event.Event.TheVariants.{End}
 use Rattle.office.proofs.Offices.{kept_ended, kept_same, same_office}
-use Rattle.office.proofs.Posting.{lacks_newest, shows_on}
+use Rattle.office.proofs.Boards.{lacks_newest, shows_on}
 use Rattle.office.proofs.office.Office.settle.Goals as goal
 
 pub post_newest-requires : goal.post_newest-requires
-post_newest-requires g c = lacks_newest (End c.number-number.result (charge c.args.ended.counts)) c.self.inside.posting c.end.ensures.ended refl refl c.self.invariant.1.posted
+post_newest-requires g c = lacks_newest c.self.inside.register _ _ (End c.number-number.result (charge c.args.ended.counts)) c.self.inside.posting c.end.ensures.ended refl refl c.self.invariant.1.posted
 
 pub invariant_of-self : goal.invariant_of-self
 invariant_of-self g c =

@@ -1,4 +1,4 @@
-use Rattle.office.proofs.Posting.{all_posted, may_post}
+use Rattle.office.proofs.Boards.{all_posted, may_post}
 use Rattle.office.proofs.posting.Posting.post_newest.Goals as goal
 
 pub post-requires-clause-allowed : goal.post-requires-clause-allowed

@@ -11,7 +11,8 @@ use Rattle.operator_board.specs.declared.rule.BoardView.{BoardView}
 use Rattle.operator_board.specs.Tallies.{AddsUp, tallies}
 use Rattle.operator_board.specs.Rule.{state_of, with_event}
 use Rattle.office.specs.declared.posting.Posting.{Posting}
-use Rattle.office.specs.Posted.{HasPosted, IsPosted, LacksNewest, Shows}
+use Rattle.office.specs.Posted.{HasPosted, LacksNewest}
+use Rattle.office.specs.Shown.{IsPosted, Shows}
 use Rattle.office.specs.Register.{RegisterView}
 
 -- the last of a legal list of events is allowed behind those before it
@@ -57,10 +58,10 @@ all_posted r v w event lacks found is = record {
 }
 
 -- where a register has one event more, its board lacks that
-pub lacks_newest : {r r' next : RegisterView} (event : Event) (posting : Option Posting) → r' ≡ next → next.journal ≡ r.journal ++ event ∷ [] → next.core.openings ≡ r.core.openings → IsPosted r posting
+pub lacks_newest : (r r' next : RegisterView) (event : Event) (posting : Option Posting) → r' ≡ next → next.journal ≡ r.journal ++ event ∷ [] → next.core.openings ≡ r.core.openings → IsPosted r posting
     → IfSome posting (λ p. LacksNewest r' (cell_view p.writer.pass))
-lacks_newest event None is more same posted = tt
-lacks_newest {r} event (Some p) is more same posted = record {
+lacks_newest r r' next event None is more same posted = tt
+lacks_newest r r' next event (Some p) is more same posted = record {
   earlier = r.journal;
   newest = event;
   journal = ap (λ (x : RegisterView). x.journal) is ∙ more;
