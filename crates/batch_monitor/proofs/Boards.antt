@@ -29,7 +29,7 @@ some_board false = ([], refl)
 
 -- the line of a run is what is asked for
 pub board_shows : (b : Bool) (line : Option BoardLine) → is_some line ≡ b → IsBoard b (line_text line)
-board_shows true (Some line) is = line.says
+board_shows true (Some line) is = record { counts = line.counts; add_up = line.add_up; says = line.says }
 board_shows true None is = cc
 board_shows false (Some line) is = cc
 board_shows false None is = refl

@@ -1,7 +1,7 @@
 //! The line of an operator's board.
 ghost use Rattle.std.specs.Prelude.{◌≡◌, ◌↔◌, ◌++◌, IfOk, IfSome, IsSome, IsTrue, OnOk, decimal};
 ghost use Rattle.operator_board.specs.Tallies.{AddsUp, tallies};
-ghost use Rattle.batch_runner.specs.Board.{IsBoardLine, board_text};
+ghost use Rattle.batch_runner.specs.Board.{board_text};
 
 use itoa::Buffer;
 use office::{Office, OfficeBrand};
@@ -12,9 +12,12 @@ use std::sync::Wait;
 /// A line of a board, whose numbers add up.
 #[derive(Drop)]
 pub struct BoardLine {
+    /// The numbers.
+    pub counts: Tallies,
     /// The line, with its line feed.
     pub text: Vec<u8>,
-    pub ghost says: { IsBoardLine text.items },
+    pub ghost says: { text.items ≡ board_text counts },
+    pub ghost add_up: { AddsUp counts },
 }
 
 /// The line of an office's board, by a read of it; none exactly where the office has no board.
@@ -42,7 +45,7 @@ fn line_of(alloc: Global, counts: Tallies) -> Result<BoardLine, AllocError>
     ensures { IfOk result (λ line. line.text.items ≡ board_text counts) }
 {
     let text = text_of(alloc, counts)?;
-    Ok(BoardLine { text })
+    Ok(BoardLine { counts, text })
 }
 
 /// The text of these tallies.

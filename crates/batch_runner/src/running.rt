@@ -118,12 +118,12 @@ fn open_office<B: OfficeBrand>(
     requires nothing_put { (view put.pass).put ≡ [] }
     requires nothing_settled { settled.book.total ≡ 0 }
 {
-    if !board {
-        return Office::new(alloc, book, put, settled);
+    if board {
+        let (shown, writer, _reader) = Board::new(alloc, book.balances())?;
+        let shown = Arc::new(alloc, shown)?;
+        return Office::with_board(alloc, book, put, settled, shown, writer);
     }
-    let (board, writer, _reader) = Board::new(alloc, book.balances())?;
-    let board = Arc::new(alloc, board)?;
-    Office::with_board(alloc, book, put, settled, board, writer)
+    Office::new(alloc, book, put, settled)
 }
 
 /// Lets the clerk write what the workers have left, reads the office's board, and gathers the tickets.
@@ -145,12 +145,17 @@ fn finish<'s, 'k, B: OfficeBrand, R: Wait, S: Source, K: Sink, G: Gate>(
 {
     write_rest(rt, &mut pooled.office, gate, &mut clerk);
     clerk.docket.read_board(rt, &mut pooled.office);
-    if clerk.docket.is_free() {
-        gather(rt, pooled);
-    } else {
-        drop(pooled);
-    }
+    put_away(rt, pooled, clerk.docket.is_free());
     clerk
+}
+
+/// Gathers the tickets of a run that was finished.
+fn put_away<B: OfficeBrand, R: Wait>(rt: &R, pooled: Pooled<B>, finished: bool)
+    requires { B.parts ≡ 16 }
+{
+    if finished {
+        gather(rt, pooled);
+    }
 }
 
 /// Lets the clerk write what is left, with what the workers have brought.
