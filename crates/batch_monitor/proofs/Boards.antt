@@ -19,7 +19,7 @@ use Rattle.batch_monitor.specs.Lines.{line_text}
 use Rattle.batch_monitor.specs.Outcome.{IsDone, IsPart, IsShown, IsWritten}
 
 -- before any event
-no_counts : Tallies
+abbrev no_counts : Tallies
 no_counts = record { arrived = 0; accepted = 0; refused = 0; ended = 0; printed = 0 }
 
 -- there is something that may stand behind a listing
