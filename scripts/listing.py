@@ -27,6 +27,7 @@ REFUSED = re.compile(r"REFUSED(?: (\d+): (.+)|: (RESERVE (\d+), BALANCE (\d+)))"
 REMARK = re.compile(r"(DIAGNOSTIC|FAULT|LIMIT) (\d+) AT (\d+),(\d+): (.+)")
 BALANCE = re.compile(r"(\S+) OPENING (\d+) CHARGES (\d+) CLOSING (\d+)")
 STRAY = re.compile(r"STRAY CARDS (\d+)")
+BOARD = re.compile(r"BOARD ARRIVED \d+ ACCEPTED \d+ REFUSED \d+ ENDED \d+ PRINTED \d+")
 SOURCE = re.compile(r"([ \d]{3}\d)(?: ([ \d]{8})  (.*))?")
 
 
@@ -143,6 +144,8 @@ class _Upwards:
             raise Unreadable("it is empty")
         if lines[0] != HEADING:
             raise Unreadable(f"line 1 isn't '{HEADING}'")
+        if len(lines) > 2 and lines[-1] == "" and BOARD.fullmatch(lines[-2]):
+            del lines[-2]
         if lines.pop() != "" or not STRAY.fullmatch(lines[-1]):
             raise Unreadable("it is cut short: its last line isn't 'STRAY CARDS' and a number")
         self.lines = lines

@@ -1,5 +1,5 @@
 -- The closing balances of a batch that was run.
-use Rattle.std.proofs.Common.{◌≡◌, ℕ, Bool, true, false, [], List, Option, append-nil, refl, sym, subst}
+use Rattle.std.proofs.Common.{◌≡◌, ℕ, Bool, true, false, [], List, Option, refl, sym, subst}
 use Rattle.std.specs.Io.KnownBytes.{Appends}
 use Rattle.std.proofs.KnownBytes.{Appends-nil}
 use Rattle.deck_reader.specs.declared.batch.Account.{Account}
@@ -8,18 +8,12 @@ use Rattle.deck_reader.specs.JobView.{JobView}
 use Rattle.account_book.specs.BookView.{openings_of}
 use Rattle.accounts_text.specs.Text.{AccountsList}
 use Rattle.batch_listing.specs.declared.audit.Audit.{Audit}
-use Rattle.batch_listing.specs.Listing.{closed_accounts, listing_with}
-use Rattle.batch_listing.specs.Writing.{WroteUpTo}
-use Rattle.batch_listing.proofs.Written.{all_left, piece_more, prefix_written}
-use Rattle.batch_runner.specs.Outcome.{IsCutShort, IsListed}
+use Rattle.batch_listing.specs.Listing.{closed_accounts}
+use Rattle.batch_runner.specs.Outcome.{IsListed}
 use Rattle.batch_monitor.specs.declared.asked.Asked.{Asked}
 use Rattle.batch_monitor.specs.Asked.{IsBalances}
 use Rattle.batch_monitor.specs.Closing.{StatesClosing, StatesClosingInPart}
 use Rattle.batch_monitor.specs.Outcome.{IsClosed, IsClosedInPart, IsWritten}
-
-written_so : (asked : Asked) (given : Option (List Account)) (left left' written written' : Option (List ℕ)) (audit : Audit) (listed : IsListed given left left' written written' audit)
-    → IsWritten asked given left left' written written' listed.input
-written_so asked given left left' written written' audit listed = record { read = listed.read; to_end = listed.to_end; fits = listed.fits; wrote = listed.wrote }
 
 -- a text of the balances of the audit's accounts is one of the batch's
 states_so : (asked : Asked) (given : Option (List Account)) (left left' written written' : Option (List ℕ)) (audit : Audit) (listed : IsListed given left left' written written' audit) (text : List ℕ) → asked.accounts ≡ true
@@ -28,43 +22,32 @@ states_so asked given left left' written written' audit listed text e states =
     subst (λ (b : Bool). IsBalances b (batch_with given listed.input) text) (sym e)
     (subst (λ (accounts : List Account). AccountsList text (closed_accounts (openings_of accounts) (batch_with given listed.input).jobs accounts)) listed.accounts states)
 
-pub closed_so : (asked : Asked) (given : Option (List Account)) (left left' written written' closed closed' : Option (List ℕ)) (audit : Audit) (listed : IsListed given left left' written written' audit) → asked.accounts ≡ true
-    → StatesClosing audit.book.accounts (batch_with given listed.input).jobs closed closed' → IsClosed asked given left left' written written' closed closed'
-closed_so asked given left left' written written' closed closed' audit listed e s = record {
+pub closed_so : (asked : Asked) (given : Option (List Account)) (left left' written written' shown closed closed' : Option (List ℕ)) (audit : Audit) (listed : IsListed given left left' written written' audit) → IsWritten asked given left left' written shown listed.input → asked.accounts ≡ true
+    → StatesClosing audit.book.accounts (batch_with given listed.input).jobs closed closed' → IsClosed asked given left left' written shown closed closed'
+closed_so asked given left left' written written' shown closed closed' audit listed whole e s = record {
   input = listed.input;
-  whole = written_so asked given left left' written written' audit listed;
+  whole = whole;
   balances = s.text;
   states = states_so asked given left left' written written' audit listed s.text e s.states;
   stated = s.stated;
 }
 
-pub closed_in_part_so : (asked : Asked) (given : Option (List Account)) (left left' written written' closed closed' : Option (List ℕ)) (audit : Audit) (listed : IsListed given left left' written written' audit) → asked.accounts ≡ true
-    → StatesClosingInPart audit.book.accounts (batch_with given listed.input).jobs closed closed' → IsClosedInPart asked given left left' written written' closed closed'
-closed_in_part_so asked given left left' written written' closed closed' audit listed e s = record {
+pub closed_in_part_so : (asked : Asked) (given : Option (List Account)) (left left' written written' shown closed closed' : Option (List ℕ)) (audit : Audit) (listed : IsListed given left left' written written' audit) → IsWritten asked given left left' written shown listed.input → asked.accounts ≡ true
+    → StatesClosingInPart audit.book.accounts (batch_with given listed.input).jobs closed closed' → IsClosedInPart asked given left left' written shown closed closed'
+closed_in_part_so asked given left left' written written' shown closed closed' audit listed whole e s = record {
   input = listed.input;
-  whole = written_so asked given left left' written written' audit listed;
+  whole = whole;
   balances = s.text;
   states = states_so asked given left left' written written' audit listed s.text e s.states;
   stated = s.stated;
 }
 
-pub closed_without : (asked : Asked) (given : Option (List Account)) (left left' written written' closed : Option (List ℕ)) (audit : Audit) → IsListed given left left' written written' audit → asked.accounts ≡ false
+pub closed_without : (asked : Asked) (given : Option (List Account)) (left left' written written' closed : Option (List ℕ)) (input : List ℕ) → IsWritten asked given left left' written written' input → asked.accounts ≡ false
     → IsClosed asked given left left' written written' closed closed
-closed_without asked given left left' written written' closed audit listed e = record {
-  input = listed.input;
-  whole = written_so asked given left left' written written' audit listed;
+closed_without asked given left left' written written' closed input whole e = record {
+  input = input;
+  whole = whole;
   balances = [];
-  states = subst (λ (b : Bool). IsBalances b (batch_with given listed.input) []) (sym e) refl;
+  states = subst (λ (b : Bool). IsBalances b (batch_with given input) []) (sym e) refl;
   stated = Appends-nil closed;
 }
-
--- a listing that is written whole is a prefix of itself
-pub cut_so : (given : Option (List Account)) (left left' written written' : Option (List ℕ)) (audit : Audit) → IsListed given left left' written written' audit → IsCutShort given left left' written written'
-cut_so given left left' written written' audit listed =
-    let text = listing_with given listed.input in
-    record {
-      input = listed.input;
-      read = listed.read;
-      wrote = prefix_written written written' text []
-          (piece_more written written written' text text [] (subst (λ (rest : List ℕ). WroteUpTo written written text rest) (sym (append-nil text)) (all_left written text)) listed.wrote);
-    }

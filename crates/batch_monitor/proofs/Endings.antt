@@ -14,8 +14,8 @@ use Rattle.batch_monitor.specs.declared.top.Status.{Status}
 use Rattle.batch_monitor.specs.declared.top.Status.TheVariants as statuses
 use Rattle.batch_monitor.specs.Accounts.{Given}
 use Rattle.batch_monitor.specs.Made.{made_summary}
-use Rattle.batch_monitor.specs.Outcome.{IsCut, IsMade}
-use Rattle.batch_runner.specs.Outcome.{IsCutShort}
+use Rattle.batch_monitor.specs.Outcome.{IsCut, IsMade, IsPart}
+use Rattle.batch_monitor.proofs.Boards.{part_of_listing}
 use Rattle.batch_monitor.specs.Status.{status_after, status_of, status_unread}
 
 -- ---- a run whose end is known
@@ -126,8 +126,9 @@ nothing_read (Some xs) = refl
 pub nothing_written : (written : Option (List ℕ)) (text : List ℕ) → AppendsPrefix written written text
 nothing_written written text = prefix_written written written text text (all_left written text)
 
-pub nothing_cut : (given : Option (List Account)) (left written : Option (List ℕ)) → IsCutShort given left left written written
-nothing_cut given left written = record { input = []; read = nothing_read left; wrote = nothing_written written (listing_with given []) }
+pub nothing_cut : (asked : Asked) (given : Option (List Account)) (left written : Option (List ℕ)) → IsPart asked given left left written written
+nothing_cut asked given left written =
+    part_of_listing asked given left left written written (record { input = []; read = nothing_read left; wrote = nothing_written written (listing_with given []) })
 
 -- where the words couldn't be read, for want of memory
 pub nothing_done : (asked : Asked) (left written known : Option (List ℕ)) → IsCut asked left left written written known known ⊎ (asked.accounts ≡ true)
@@ -135,7 +136,7 @@ nothing_done asked left written known = go asked.accounts refl
   where
     go : (b : Bool) → asked.accounts ≡ b → IsCut asked left left written written known known ⊎ (asked.accounts ≡ true)
     go true e = inr e
-    go false e = inl (record { given = None; is_given = subst (λ (k : Bool). Given k known known None) (sym e) refl; cut = nothing_cut None left written })
+    go false e = inl (record { given = None; is_given = subst (λ (k : Bool). Given k known known None) (sym e) refl; cut = nothing_cut asked None left written })
 
 pub cut_or : {A B P Q : Type 0} → A ⊎ B → P → Q → A ⊎ (B × P × Q)
 cut_or (inl a) p q = inl a

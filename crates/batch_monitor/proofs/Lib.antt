@@ -1,3 +1,4 @@
+pub mod Boards
 pub mod Closed
 pub mod Closings
 pub mod Endings

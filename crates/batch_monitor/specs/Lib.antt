@@ -1,6 +1,7 @@
 pub mod Accounts
 pub mod Asked
 pub mod Closing
+pub mod Lines
 pub mod Made
 pub mod Orders
 pub mod Outcome

@@ -13,7 +13,7 @@ SaysNothing words = (order : Order) → IsOrder words order → ⊥
 pub record SaysRun (words : List Text) (asked : Asked) : Type 0 where
   pub workers : ℕ
   pub queue : ℕ
-  pub order : IsOrder words (Run workers queue asked.accounts)
+  pub order : IsOrder words (Run workers queue asked.accounts asked.board)
 
 -- they say so, and ask for an accounts file
 pub record SaysAccounts (words : List Text) : Type 0 where

@@ -3,4 +3,6 @@
 pub struct Asked {
     /// Whether the accounts are those of an accounts file, and the closing balances go to one.
     pub accounts: bool,
+    /// Whether a line of the operator's board follows the listing.
+    pub board: bool,
 }

@@ -1,16 +1,17 @@
 ghost use Rattle.std.specs.Prelude.{◌≡◌, ◌⊎◌, List, Option, IfErr, OnErr, OnOk, IsErrOf, false, true};
 ghost use Rattle.batch_io.specs.Causes.{Rose};
 ghost use Rattle.deck_reader.specs.declared.batch.Account.{Account};
-ghost use Rattle.batch_runner.specs.Outcome.{IsCutShort};
 ghost use Rattle.batch_intake.specs.Halts.{IsTooLarge};
 ghost use Rattle.batch_monitor.specs.Accounts.{AreGiven, Given, IsBadText};
-ghost use Rattle.batch_monitor.specs.Outcome.{IsClosed, IsClosedInPart, IsCut, IsCutInBalances, IsDone};
+ghost use Rattle.batch_monitor.specs.Lines.{line_text};
+ghost use Rattle.batch_monitor.specs.Outcome.{IsClosed, IsClosedInPart, IsCut, IsCutInBalances, IsDone, IsPart};
 
 use crate::accounts::{given_accounts, write_balances};
 use crate::asked::Asked;
 use crate::top::{Status, status_after};
 use batch_io::{Gate, Sink, Source};
-use batch_runner::{Halt, Staff, write_listing};
+use batch_listing::write_all_of;
+use batch_runner::{BoardLine, Halt, Staff, write_listing};
 use deck_reader::{Account, Listed};
 use std::alloc::Global;
 use std::sync::Wait;
@@ -85,7 +86,7 @@ fn run_given<R: Threads + Wait + Sync, S: Source, K: Sink, B: Sink, G: Gate>(
     requires given { AreGiven asked.accounts given }
     ensures done { OnOk result (IsClosed asked given (S.left src.old) (S.left src.new) (K.written sink.old) (K.written sink.new)
         (B.written accounts_sink.old) (B.written accounts_sink.new)) }
-    ensures cut { OnErr result (IsCutShort given (S.left src.old) (S.left src.new) (K.written sink.old) (K.written sink.new)) }
+    ensures cut { OnErr result (IsPart asked given (S.left src.old) (S.left src.new) (K.written sink.old) (K.written sink.new)) }
     ensures balances { IfErr result (λ halt. (accounts_sink.new ≡ accounts_sink.old) ⊎ ((halt ≡ Halt.WriteFault)
         × IsClosedInPart asked given (S.left src.old) (S.left src.new) (K.written sink.old) (K.written sink.new)
         (B.written accounts_sink.old) (B.written accounts_sink.new))) }
@@ -97,9 +98,21 @@ fn run_given<R: Threads + Wait + Sync, S: Source, K: Sink, B: Sink, G: Gate>(
         ⊎ ((asked.accounts ≡ true) × Rose (B.faults accounts_sink.old) (B.faults accounts_sink.new)) }
     ensures large { IsErrOf result Halt.TooLarge → IsTooLarge (S.left src.old) (S.left src.new) }
 {
-    let audit = write_listing(rt, alloc, given, src, sink, staff, gate)?;
+    let written = write_listing(rt, alloc, given, src, sink, staff, asked.board, gate)?;
+    let line = line_text(alloc, written.line);
+    write_all_of(sink, line.as_slice())?;
     if !asked.accounts {
         return Ok(());
     }
-    write_balances(alloc, &audit, accounts_sink)
+    write_balances(alloc, &written.audit, accounts_sink)
+}
+
+/// The text of a board's line, or none.
+fn line_text(alloc: Global, line: Option<BoardLine>) -> Vec<u8>
+    ensures { result.items ≡ line_text line }
+{
+    match line {
+        Some(line) => line.text,
+        None => Vec::new(alloc),
+    }
 }

@@ -5,7 +5,7 @@ ghost use Rattle.batch_intake.specs.Halts.{IsTooLarge};
 ghost use Rattle.batch_monitor.specs.declared.asked.Asked.{Asked};
 ghost use Rattle.batch_monitor.specs.Accounts.{IsBadText, StatesNone, StatesSome};
 ghost use Rattle.batch_monitor.specs.Orders.{SaysAccounts, SaysMake, SaysNothing, SaysRun};
-ghost use Rattle.batch_monitor.specs.Outcome.{IsCut, IsCutInBalances, IsDone, IsMade, NoneRose};
+ghost use Rattle.batch_monitor.specs.Outcome.{IsCut, IsCutInBalances, IsDone, IsMade, IsShown, NoneRose};
 ghost use Rattle.batch_monitor.specs.Status.{number_of, status_after};
 
 use crate::accounts::Unread;
@@ -87,7 +87,8 @@ impl From<Unread> for Status {
 }
 
 /// Does what the command words say: reads a batch, runs its jobs and writes the listing; or makes a batch, runs its jobs
-/// and writes the summary of its listing. With `--accounts` the opening balances of a batch that is read are those that an
+/// and writes the summary of its listing. With `--board` a line behind the listing tells how many jobs have arrived, were accepted
+/// and refused, have ended, and are printed. With `--accounts` the opening balances of a batch that is read are those that an
 /// accounts file states, which is read first, and behind the listing a text is written that states the closing balances, which
 /// may be the next batch's opening ones. So many workers run the jobs as the words say, in threads of their own but for one,
 /// and as many accepted jobs as they say may wait for them: no byte depends on these numbers, nor on what the workers do when.
@@ -108,12 +109,18 @@ pub fn run_monitor<R: Threads + Wait + Sync, S: Source, K: Sink, A: Source, B: S
     ensures untouched { SaysNothing (map string_bytes words.now) → (src.new ≡ src.old) × (sink.new ≡ sink.old)
         × (accounts_src.new ≡ accounts_src.old) × (accounts_sink.new ≡ accounts_sink.old) }
 
-    // What was written is the listing of the batch with its accounts, and behind it the closing balances where they are asked for.
+    // What was written is the listing of the batch with its accounts, and behind it the line of a board and the closing balances
+    // where they are asked for.
     ensures done { (asked : Asked) → SaysRun (map string_bytes words.now) asked → result ≡ Status.Done
         → IsDone asked (S.left src.old) (S.left src.new) (K.written sink.old) (K.written sink.new)
         (A.left accounts_src.old) (A.left accounts_src.new) (B.written accounts_sink.old) (B.written accounts_sink.new) }
 
-    // On any other answer it is a prefix of the listing of what was read; or of the batch nothing was read, and nothing was written.
+    // With a board the listing is followed by a line whose numbers add up.
+    ensures board { (asked : Asked) → SaysRun (map string_bytes words.now) asked → asked.board ≡ true → result ≡ Status.Done
+        → IsShown asked (S.left src.old) (S.left src.new) (K.written sink.old) (K.written sink.new)
+        (A.left accounts_src.old) (A.left accounts_src.new) }
+
+    // On any other answer it is a prefix of that, for what was read; or of the batch nothing was read, and nothing was written.
     ensures cut { (asked : Asked) → SaysRun (map string_bytes words.now) asked → (result ≡ Status.Done → ⊥)
         → IsCut asked (S.left src.old) (S.left src.new) (K.written sink.old) (K.written sink.new) (A.left accounts_src.old) (A.left accounts_src.new)
         ⊎ ((asked.accounts ≡ true) × (src.new ≡ src.old) × (sink.new ≡ sink.old)) }
@@ -171,12 +178,13 @@ pub fn run_monitor<R: Threads + Wait + Sync, S: Source, K: Sink, A: Source, B: S
                 workers,
                 queue,
                 accounts,
+                board,
             },
         ) => match Staff::new(alloc, workers, queue) {
             Ok(staff) => run_batch(
                 rt,
                 alloc,
-                Asked { accounts },
+                Asked { accounts, board },
                 src,
                 sink,
                 accounts_src,

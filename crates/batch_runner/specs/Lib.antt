@@ -1,3 +1,4 @@
+pub mod Board
 pub mod Outcome
 pub mod Progress
 pub mod ProgressLaws

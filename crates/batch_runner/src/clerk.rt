@@ -1,15 +1,16 @@
-ghost use Rattle.std.specs.Prelude.{◌≡◌, ◌+◌, ◌<◌, ◌↔◌, false, None, Some, IfErr, OnOk, IsTrue, length};
+ghost use Rattle.std.specs.Prelude.{◌≡◌, ◌+◌, ◌<◌, ◌↔◌, false, None, Some, IfErr, OnOk, IsTrue, is_some, length};
 ghost use Rattle.batch_intake.specs.Taking.{reader_of};
 ghost use Rattle.batch_runner.specs.Outcome.{Outside, outside};
 ghost use Rattle.batch_runner.specs.Progress.{GoesOn, progress};
 
+use crate::board::{BoardLine, board_line};
 use batch_intake::{Halt, Intake};
 use batch_io::{Gate, Sink, Source};
 use batch_listing::{Audit, write_all_of};
 use deck_reader::Job;
-use job_queue::{JobQueue, QueueBrand};
+use job_queue::JobQueue;
 use job_runner::{Brought, Desk};
-use office::{Admitted, ArriveError, Office};
+use office::{Admitted, ArriveError, Office, OfficeBrand};
 use std::alloc::{AllocError, Global};
 use std::sync::{Arc, Mutex, Wait};
 use worker_pool::{Caller, Turn};
@@ -30,6 +31,8 @@ pub(crate) struct Docket {
     written: usize,
     /// The job that the audit has run itself for the last section.
     audited: Option<u32>,
+    /// The line of the office's board, once all sections are written; none where it has no board.
+    pub(crate) line: Option<BoardLine>,
     /// Why no section more is.
     pub(crate) halt: Option<Halt>,
 }
@@ -48,6 +51,7 @@ impl Docket {
             closed: false,
             written: 0,
             audited: None,
+            line: None,
             halt: None,
         }
     }
@@ -78,9 +82,25 @@ impl Docket {
         requires { self.old.halt ≡ None }
         ensures goes_on { (now : Outside) → GoesOn (progress self.old now) (progress self.new now) }
         ensures halted { self.new.halt ≡ Some Halt.NoMemory }
-        ensures intake { self.new.intake ≡ self.old.intake }
+        ensures same { (self.new.intake ≡ self.old.intake) × (self.new.written ≡ self.old.written) }
     {
         self.halt = Some(Halt::NoMemory);
+    }
+
+    /// Keeps the line of the office's board, unless it is halted, and halts it where memory is wanting for that.
+    pub(crate) fn read_board<B: OfficeBrand, R: Wait>(&mut self, rt: &R, office: &mut Office<B>)
+        ensures goes_on { (now : Outside) → GoesOn (progress self.old now) (progress self.new now) }
+        ensures same { (self.new.intake ≡ self.old.intake) × (self.new.written ≡ self.old.written) }
+        ensures halted { self.new.halt ≡ None → self.old.halt ≡ None }
+        ensures line { self.new.halt ≡ None → is_some self.new.line ≡ B.boarded }
+    {
+        if !self.is_free() {
+            return;
+        }
+        match board_line(rt, self.alloc, office) {
+            Ok(line) => self.line = line,
+            Err(AllocError) => self.stop_without_memory(),
+        }
     }
 
     /// Tells the gate of the job that the audit has run itself, once.
@@ -94,7 +114,7 @@ impl Docket {
     }
 
     /// Lets the jobs that are new arrive in the office, and closes it to arrivals behind the last one.
-    fn let_arrive<B: QueueBrand, R: Wait>(
+    fn let_arrive<B: OfficeBrand, R: Wait>(
         &mut self,
         rt: &R,
         office: &Mutex<Office<B>>,
@@ -106,7 +126,7 @@ impl Docket {
         let (from, count) = (self.arrived, self.intake.jobs.len());
         if from < count || ended {
             let mut office = office.lock(rt);
-            arrive_all(&mut office, self.intake.jobs.as_slice(), from)?;
+            arrive_all(rt, &mut office, self.intake.jobs.as_slice(), from)?;
             if ended {
                 office.close_arrivals();
             }
@@ -117,7 +137,7 @@ impl Docket {
     }
 
     /// Lets the jobs that are new arrive, unless it is halted, and halts it where memory is wanting for that.
-    fn hand_over<B: QueueBrand, R: Wait>(&mut self, rt: &R, office: &Mutex<Office<B>>)
+    fn hand_over<B: OfficeBrand, R: Wait>(&mut self, rt: &R, office: &Mutex<Office<B>>)
         ensures goes_on { (now : Outside) → GoesOn (progress self.old now) (progress self.new now) }
     {
         if !self.is_free() {
@@ -129,7 +149,7 @@ impl Docket {
     }
 
     /// Stops the office, where no section more is written.
-    fn stop_office<B: QueueBrand, R: Wait>(&self, rt: &R, office: &Mutex<Office<B>>) {
+    fn stop_office<B: OfficeBrand, R: Wait>(&self, rt: &R, office: &Mutex<Office<B>>) {
         if !self.is_free() {
             office.lock(rt).stop();
         }
@@ -138,7 +158,8 @@ impl Docket {
 
 /// Lets the jobs from this place on arrive. One that doesn't fit the office stops it: then the audit alone decides on it and
 /// those behind it, of which none fits.
-fn arrive_all<B: QueueBrand>(
+fn arrive_all<B: OfficeBrand, R: Wait>(
+    rt: &R,
     office: &mut Office<B>,
     jobs: &[Arc<Job>],
     from: usize,
@@ -147,7 +168,7 @@ fn arrive_all<B: QueueBrand>(
         return Ok(());
     };
     for job in behind {
-        match office.arrive(job.clone()?) {
+        match office.arrive(rt, job.clone()?) {
             Ok(()) => {}
             Err(ArriveError::NoMemory) => return Err(AllocError),
             Err(ArriveError::Misfit { .. }) => office.stop(),
@@ -230,7 +251,7 @@ impl<'s, 'k, S: Source, K: Sink> Clerk<'s, 'k, S, K, Docket> {
     }
 
     /// Decides on the next job, and writes the next section where it is ready. The answer is whether either was done.
-    fn serve_next<B: QueueBrand, R: Wait>(
+    fn serve_next<B: OfficeBrand, R: Wait>(
         &mut self,
         rt: &R,
         office: &Mutex<Office<B>>,
@@ -256,7 +277,7 @@ impl<'s, 'k, S: Source, K: Sink> Clerk<'s, 'k, S, K, Docket> {
     }
 
     /// Reads on, and lets the jobs that are new arrive in the office. Where that can't be, the office is stopped.
-    fn take_in<B: QueueBrand, R: Wait>(&mut self, rt: &R, office: &Mutex<Office<B>>)
+    fn take_in<B: OfficeBrand, R: Wait>(&mut self, rt: &R, office: &Mutex<Office<B>>)
         requires { self.old.docket.halt ≡ None }
         ensures same_ports { (self.new.src.ghost_name ≡ self.old.src.ghost_name) × (self.new.sink.ghost_name ≡ self.old.sink.ghost_name) }
         ensures goes_on { GoesOn
@@ -283,7 +304,7 @@ impl<'s, 'k, S: Source, K: Sink> Clerk<'s, 'k, S, K, Docket> {
     }
 }
 
-impl<'s, 'k, B: QueueBrand, S: Source, K: Sink> Caller<B> for Clerk<'s, 'k, S, K, Docket> {
+impl<'s, 'k, B: OfficeBrand, S: Source, K: Sink> Caller<B> for Clerk<'s, 'k, S, K, Docket> {
     ghost use Rattle.std.specs.Prelude.{◌≡◌, None};
     ghost use Rattle.std.proofs.Common.{refl, ◌∙◌};
     ghost use Rattle.batch_intake.specs.Taking.{reader_of};
@@ -320,14 +341,14 @@ impl<'s, 'k, B: QueueBrand, S: Source, K: Sink> Caller<B> for Clerk<'s, 'k, S, K
 }
 
 /// A decision on the next job, and what is ready for the next section.
-fn serve<B: QueueBrand, R: Wait>(
+fn serve<B: OfficeBrand, R: Wait>(
     rt: &R,
     office: &Mutex<Office<B>>,
     queue: &JobQueue<B>,
 ) -> (Admitted, Option<Brought>) {
     let mut office = office.lock(rt);
     let admitted = office.admit(rt, queue);
-    let brought = office.next_section();
+    let brought = office.next_section(rt);
     (admitted, brought)
 }
 

@@ -1,11 +1,13 @@
 //! Runs the jobs of a batch by a pool of workers, and writes its listing.
 #![tactic(auto)]
 
+mod board;
 mod clerk;
 mod listing;
 mod nowhere;
 mod running;
 
 pub use batch_intake::Halt;
-pub use listing::{tally_listing, write_listing};
+pub use board::{BoardLine, board_line};
+pub use listing::{Written, tally_listing, write_listing};
 pub use running::Staff;

@@ -1,4 +1,4 @@
-ghost use Rattle.std.specs.Prelude.{◌≡◌, ◌≤◌, ◌+◌, true, List, Option, None, IfErr, IfOk, IfSome, OnErr, OnOk, IsErrOf, length};
+ghost use Rattle.std.specs.Prelude.{◌≡◌, ◌≤◌, ◌+◌, true, List, Option, None, IfErr, IfOk, IfSome, OnErr, OnOk, IsErrOf, is_some, length};
 ghost use Rattle.batch_io.specs.Causes.{Rose};
 ghost use Rattle.deck_reader.specs.declared.batch.Account.{Account};
 ghost use Rattle.deck_reader.specs.Batch.{batch, too_large};
@@ -8,6 +8,7 @@ ghost use Rattle.batch_intake.specs.Halts.{IsTooLarge};
 ghost use Rattle.batch_runner.specs.Progress.{HasWritten, IsOpened, IsServed, begun};
 ghost use Rattle.batch_intake.specs.Taking.{StopsFront, stray_of};
 
+use crate::board::BoardLine;
 use crate::clerk::{Clerk, Docket};
 use crate::nowhere::Nowhere;
 use crate::running::{Staff, run_jobs};
@@ -25,9 +26,18 @@ use std::marker::Brand;
 use std::sync::Wait;
 use std::thread::Threads;
 
+/// What is left behind a listing that was written whole.
+#[derive(Drop)]
+pub struct Written {
+    /// The audit, which knows the closing balances.
+    pub audit: Audit,
+    /// The line of the operator's board, where there was one.
+    pub line: Option<BoardLine>,
+}
+
 /// Reads a batch, runs its jobs and writes its listing: the heading, each section as it is ready, and the closing lines. The
 /// jobs run while the batch is read. The accounts are those that are given, or else those that the cards open. Gives back the
-/// audit, which knows the closing balances.
+/// audit, and the line of the operator's board where there is to be one.
 pub fn write_listing<R: Threads + Wait + Sync, S: Source, K: Sink, G: Gate>(
     rt: &R,
     alloc: Global,
@@ -35,14 +45,16 @@ pub fn write_listing<R: Threads + Wait + Sync, S: Source, K: Sink, G: Gate>(
     src: &mut S,
     sink: &mut K,
     staff: Staff,
+    board: bool,
     gate: &G,
-) -> Result<Audit, Halt>
+) -> Result<Written, Halt>
     requires few { IfSome given (λ accounts. length accounts ≤ 500) }
 
     // What was written is the listing of the batch, or a prefix of the listing of what was read.
-    ensures done { IfOk result (λ audit. IsListed given (S.left src.old) (S.left src.new) (K.written sink.old) (K.written sink.new) audit) }
+    ensures done { IfOk result (λ written. IsListed given (S.left src.old) (S.left src.new) (K.written sink.old) (K.written sink.new) written.audit) }
     ensures cut { OnErr result
         (IsCutShort given (S.left src.old) (S.left src.new) (K.written sink.old) (K.written sink.new)) }
+    ensures line { IfOk result (λ written. is_some written.line ≡ board) }
 
     // Each answer has its cause, and no fault is passed over.
     ensures kept { OnOk result ((S.faults src.new ≡ S.faults src.old) × (K.faults sink.new ≡ K.faults sink.old)) }
@@ -50,10 +62,13 @@ pub fn write_listing<R: Threads + Wait + Sync, S: Source, K: Sink, G: Gate>(
     ensures write { IsErrOf result Halt.WriteFault → Rose (K.faults sink.old) (K.faults sink.new) }
     ensures large { IsErrOf result Halt.TooLarge → IsTooLarge (S.left src.old) (S.left src.new) }
 {
-    let served = write_sections(rt, alloc, given, src, sink, staff, gate)?;
+    let served = write_sections(rt, alloc, given, src, sink, staff, board, gate)?;
     let closing = served.audit.closing(alloc, served.stray)?;
     write_all_of(sink, closing.as_slice())?;
-    Ok(served.audit)
+    Ok(Written {
+        audit: served.audit,
+        line: served.line,
+    })
 }
 
 /// Reads a batch, runs its jobs, and tells what its listing comes to.
@@ -69,7 +84,7 @@ pub fn tally_listing<R: Threads + Wait + Sync, G: Gate>(
     ensures large { IsErrOf result Halt.TooLarge → too_large src.left ≡ true }
 {
     let mut nowhere = Nowhere;
-    let served = write_sections(rt, alloc, None, &mut src, &mut nowhere, staff, gate)?;
+    let served = write_sections(rt, alloc, None, &mut src, &mut nowhere, staff, false, gate)?;
     let closing = served.audit.closing(alloc, served.stray)?;
     let sections = served.audit.tally();
     let listing = with_closing(sections, closing.as_slice())?;
@@ -92,6 +107,7 @@ fn with_closing(sections: Tally, closing: &[u8]) -> Result<Tally, AllocError>
 struct Served {
     audit: Audit,
     stray: u32,
+    line: Option<BoardLine>,
 }
 
 /// Reads a batch, runs its jobs, and writes the heading and the section of each job, in order.
@@ -102,11 +118,13 @@ fn write_sections<R: Threads + Wait + Sync, S: Source, K: Sink, G: Gate>(
     src: &mut S,
     sink: &mut K,
     staff: Staff,
+    board: bool,
     gate: &G,
 ) -> Result<Served, Halt>
     requires few { IfSome given (λ accounts. length accounts ≤ 500) }
     ensures ok { IfOk result (λ served. IsServed given (outside (S.left src.old) (S.faults src.old) (K.written sink.old) (K.faults sink.old)) (outside (S.left src.new) (S.faults src.new) (K.written sink.new) (K.faults sink.new)) served.audit served.stray) }
     ensures err { IfErr result (λ halt. HasHalted given (outside (S.left src.old) (S.faults src.old) (K.written sink.old) (K.faults sink.old)) (outside (S.left src.new) (S.faults src.new) (K.written sink.new) (K.faults sink.new)) halt) }
+    ensures line { IfOk result (λ served. is_some served.line ≡ board) }
 {
     let Staff { mut desks, queue } = staff;
     let opened = open_batch(alloc, given, src, queue)?;
@@ -119,12 +137,13 @@ fn write_sections<R: Threads + Wait + Sync, S: Source, K: Sink, G: Gate>(
     } = opened;
     let desks = desks.as_mut_slice();
     let docket = serve(
-        rt, alloc, src, sink, intake, book, audit, fresh, desks, gate,
+        rt, alloc, src, sink, intake, book, audit, fresh, board, desks, gate,
     );
     match docket.halt {
         None => Ok(Served {
             stray: docket.intake.stray(),
             audit: docket.audit,
+            line: docket.line,
         }),
         Some(halt) => Err(halt),
     }
@@ -173,6 +192,7 @@ fn serve<R: Threads + Wait + Sync, S: Source, K: Sink, G: Gate>(
     book: Book,
     audit: Audit,
     fresh: FreshQueue,
+    board: bool,
     desks: &mut [CachePadded<Desk>],
     gate: &G,
 ) -> Docket
@@ -182,9 +202,10 @@ fn serve<R: Threads + Wait + Sync, S: Source, K: Sink, G: Gate>(
         → IsServed given start (outside (S.left src.new) (S.faults src.new) (K.written sink.new) (K.faults sink.new)) result.audit (stray_of result.intake) }
     ensures some { (given : Option (List Account)) (start : Outside) → HasWritten given start (begun (outside (S.left src.old) (S.faults src.old) (K.written sink.old) (K.faults sink.old)) intake audit)
         → IfSome result.halt (λ halt. HasHalted given start (outside (S.left src.new) (S.faults src.new) (K.written sink.new) (K.faults sink.new)) halt) }
+    ensures line { result.halt ≡ None → is_some result.line ≡ board }
 {
     let docket = Docket::new(alloc, intake, audit);
     let clerk = Clerk { src, sink, docket };
-    let after = run_jobs::<Brand, R, S, K, G>(rt, alloc, fresh, book, desks, gate, clerk);
+    let after = run_jobs::<Brand, R, S, K, G>(rt, alloc, fresh, book, board, desks, gate, clerk);
     after.into_docket()
 }

@@ -1,5 +1,6 @@
-ghost use Rattle.std.specs.Prelude.{◌≡◌, ◌≤◌, List, Option, None, IfOk, IfSome, length};
+ghost use Rattle.std.specs.Prelude.{◌≡◌, ◌≤◌, List, Option, None, IfOk, IfSome, [], is_some, length};
 ghost use Rattle.deck_reader.specs.declared.batch.Account.{Account};
+ghost use Rattle.crossbeam_queue.specs.Passes.{view};
 ghost use Rattle.batch_intake.specs.Taking.{stray_of};
 ghost use Rattle.batch_runner.specs.Outcome.{HasHalted, Outside, outside};
 ghost use Rattle.batch_runner.specs.Progress.{GoesOn, HasWritten, IsServed, begun, progress};
@@ -8,11 +9,12 @@ use crate::clerk::{Clerk, Docket};
 use account_book::Book;
 use batch_io::{Gate, Sink, Source};
 use crossbeam_utils::CachePadded;
-use job_queue::{FreshQueue, QueueBrand};
+use job_queue::{FreshQueue, PutPass, SettleBook};
 use job_runner::Desk;
-use office::Office;
+use office::{Office, OfficeBrand};
+use operator_board::Board;
 use std::alloc::{AllocError, Global};
-use std::sync::Wait;
+use std::sync::{Arc, Wait};
 use std::thread::Threads;
 use worker_pool::{Pooled, gather, run_pool};
 
@@ -65,7 +67,7 @@ fn desks(alloc: Global, count: u32) -> Result<Vec<CachePadded<Desk>>, AllocError
 pub(crate) fn run_jobs<
     's,
     'k,
-    B: QueueBrand + Send + Sync,
+    B: OfficeBrand + Send + Sync,
     R: Threads + Wait + Sync,
     S: Source,
     K: Sink,
@@ -75,6 +77,7 @@ pub(crate) fn run_jobs<
     alloc: Global,
     fresh: FreshQueue,
     book: Book,
+    board: bool,
     desks: &mut [CachePadded<Desk>],
     gate: &G,
     mut clerk: Clerk<'s, 'k, S, K, Docket>,
@@ -82,6 +85,7 @@ pub(crate) fn run_jobs<
     requires name { fresh.blank.name ≡ B.name }
     requires parts { fresh.blank.parts ≡ B.parts }
     requires table { fresh.ring.table.shared.table_id ≡ B.table }
+    requires board { B.boarded ≡ board }
     requires desks { 1 ≤ length desks.old }
     requires few { length desks.old ≤ 16 }
     requires free { clerk.docket.halt ≡ None }
@@ -91,9 +95,10 @@ pub(crate) fn run_jobs<
         → result.docket.halt ≡ None → IsServed given start (outside (S.left result.src.now) (S.faults result.src.now) (K.written result.sink.now) (K.faults result.sink.now)) result.docket.audit (stray_of result.docket.intake) }
     ensures some { (given : Option (List Account)) (start : Outside) → HasWritten given start (begun (outside (S.left clerk.entry.src.now) (S.faults clerk.entry.src.now) (K.written clerk.entry.sink.now) (K.faults clerk.entry.sink.now)) clerk.entry.docket.intake clerk.entry.docket.audit)
         → IfSome result.docket.halt (λ halt. HasHalted given start (outside (S.left result.src.now) (S.faults result.src.now) (K.written result.sink.now) (K.faults result.sink.now)) halt) }
+    ensures line { result.docket.halt ≡ None → is_some result.docket.line ≡ board }
 {
     let (queue, put, take, settled) = fresh.open::<B>();
-    let Ok(office) = Office::new(alloc, book, put, settled) else {
+    let Ok(office) = open_office(alloc, book, put, settled, board) else {
         clerk.docket.stop_without_memory();
         return clerk;
     };
@@ -101,8 +106,28 @@ pub(crate) fn run_jobs<
     finish(rt, pooled, gate, clerk)
 }
 
-/// Lets the clerk write what the workers have left, and gathers the tickets.
-fn finish<'s, 'k, B: QueueBrand, R: Wait, S: Source, K: Sink, G: Gate>(
+/// The office of a batch before any event, with a board or without one.
+fn open_office<B: OfficeBrand>(
+    alloc: Global,
+    book: Book,
+    put: PutPass<B>,
+    settled: SettleBook<B>,
+    board: bool,
+) -> Result<Office<B>, AllocError>
+    requires board { B.boarded ≡ board }
+    requires nothing_put { (view put.pass).put ≡ [] }
+    requires nothing_settled { settled.book.total ≡ 0 }
+{
+    if board {
+        let (shown, writer, _reader) = Board::new(alloc, book.balances())?;
+        let shown = Arc::new(alloc, shown)?;
+        return Office::with_board(alloc, book, put, settled, shown, writer);
+    }
+    Office::new(alloc, book, put, settled)
+}
+
+/// Lets the clerk write what the workers have left, reads the office's board, and gathers the tickets.
+fn finish<'s, 'k, B: OfficeBrand, R: Wait, S: Source, K: Sink, G: Gate>(
     rt: &R,
     mut pooled: Pooled<B>,
     gate: &G,
@@ -116,18 +141,26 @@ fn finish<'s, 'k, B: QueueBrand, R: Wait, S: Source, K: Sink, G: Gate>(
     ensures intake { result.docket.intake ≡ clerk.entry.docket.intake }
     ensures halted { result.docket.halt ≡ None → clerk.entry.docket.halt ≡ None }
     ensures finished { result.docket.halt ≡ None → length result.docket.intake.jobs.items ≤ result.docket.written }
+    ensures line { result.docket.halt ≡ None → is_some result.docket.line ≡ B.boarded }
 {
-    write_rest(&mut pooled.office, gate, &mut clerk);
-    if clerk.docket.is_free() {
-        gather(rt, pooled);
-    } else {
-        drop(pooled);
-    }
+    write_rest(rt, &mut pooled.office, gate, &mut clerk);
+    clerk.docket.read_board(rt, &mut pooled.office);
+    put_away(rt, pooled, clerk.docket.is_free());
     clerk
 }
 
+/// Gathers the tickets of a run that was finished.
+fn put_away<B: OfficeBrand, R: Wait>(rt: &R, pooled: Pooled<B>, finished: bool)
+    requires { B.parts ≡ 16 }
+{
+    if finished {
+        gather(rt, pooled);
+    }
+}
+
 /// Lets the clerk write what is left, with what the workers have brought.
-fn write_rest<B: QueueBrand, S: Source, K: Sink, G: Gate>(
+fn write_rest<B: OfficeBrand, R: Wait, S: Source, K: Sink, G: Gate>(
+    rt: &R,
     office: &mut Office<B>,
     gate: &G,
     clerk: &mut Clerk<'_, '_, S, K, Docket>,
@@ -142,7 +175,7 @@ fn write_rest<B: QueueBrand, S: Source, K: Sink, G: Gate>(
 {
     clerk.docket.tell(gate);
     while clerk.docket.has_more() {
-        clerk.write_next(office.next_section());
+        clerk.write_next(office.next_section(rt));
         clerk.docket.tell(gate);
     }
 }

@@ -1,6 +1,6 @@
 -- From what clap gives to the order.
 use Rattle.std.proofs.Common.{◌≡◌, ◌∙◌, sym, ap, ap₂, refl, ℕ, Bool, true, false, List, [], ◌∷◌, ◌++◌, Option, Some, None, codes, append_assoc, map}
-use Rattle.std.specs.Prelude.{if◌then◌else◌, unwrap_or, ◌==◌, find, option_map}
+use Rattle.std.specs.Prelude.{if◌then◌else◌, unwrap_or, ◌==◌, find, is_some, option_and_then, option_map, slice_get}
 use Rattle.std.specs.List.{list_all}
 use Rattle.std.specs.Str.{bytes_eq}
 use Rattle.std.proofs.lemmas.Slice.Eq.{bytes_eq-Decides}
@@ -8,7 +8,7 @@ use Rattle.clap.specs.declared.builder.value_parser.Reading.{Reading}
 use Rattle.clap.specs.declared.builder.value_parser.Reading.TheVariants as reading
 use Rattle.clap.specs.declared.parser.matches.ValueSource.{ValueSource}
 use Rattle.clap.specs.declared.parser.matches.ValueSource.TheVariants.{DefaultValue}
-use Rattle.clap.specs.Walk.{Row, Text, first_of, has_row, one_of, with_default, with_values}
+use Rattle.clap.specs.Walk.{Row, Text, first_of, has_row, one_of, row_text, with_default, with_values}
 use Rattle.clap.specs.Faults.{fault_of}
 use Rattle.clap.specs.Simple.{matches_of}
 use Rattle.command_words.specs.Command.{monitor_app}
@@ -20,8 +20,9 @@ use Rattle.std.specs.Char.{is_ascii_digit}
 use Rattle.std.specs.Str.Parse.{digits_value}
 use Rattle.command_words.specs.Form.{Use, apart, joined, flag, flags, has_flag, is_among, is_known, name_of, options, run_from, make_from, IsOrder, dashed, has_dashes, number_in, number_or, order_from, order_of, value_in, value_of, words_of}
 use Rattle.command_words.proofs.Fresh.{and_first, are_known, both_true, and_second, not_true, is_fresh, has_use, fresh_by, fresh_is_known, fresh_is_once}
-use Rattle.command_words.proofs.Walked.{Finds, finds_jobs, finds_make, finds_queue, finds_workers, not_dashes, same}
-use Rattle.command_words.proofs.Whole.{IsRead, accounts, are_plain, is_plain, known_finds, known_flag, is_hyphen, plain_word_is, row_of, taken_is_read, spelt_is_taken, text_of, use_row}
+use Rattle.command_words.proofs.Walked as walked
+use Rattle.command_words.proofs.Walked.{Finds, FindsFlag, finds_accounts, finds_board, finds_jobs, finds_make, finds_queue, finds_workers, not_dashes, same}
+use Rattle.command_words.proofs.Whole.{IsRead, accounts, are_plain, is_plain, known_finds, known_flag, is_hyphen, plain_word_is, row_of, taken_is_read, spelt_is_taken, text_of, use_row, with_flags}
 
 -- ---- the values of options
 
@@ -51,26 +52,34 @@ value_is_text name (u ∷ us) f known = go (bytes_eq (name_of u) name) refl (val
     go true e rec = rw e (has_value u (and_first (is_known u) (are_known us) known) (ap (λ (n : Text). is_among n flags) (same (name_of u) name e) ∙ f.is_no_flag))
     go false e rec = rw e rec
 
+-- the row of a name
+abbrev row_at : Text → List Row → Option Row
+row_at name rows = find (λ r. bytes_eq r.id name) rows
+
 -- values given to a name are none of another's
-first_of_others : (name id : Text) (how : Reading) (source : ValueSource) (values : List Text) (rows : List Row) → bytes_eq id name ≡ false
-    → first_of name (with_values id how source values rows) ≡ first_of name rows
-first_of_others name id how source values [] other = rw other refl
-first_of_others name id how source values (r ∷ rs) other = go (bytes_eq r.id id) (bytes_eq r.id name) refl refl (first_of_others name id how source values rs other)
+row_of_others : (name id : Text) (how : Reading) (source : ValueSource) (values : List Text) (rows : List Row) → bytes_eq id name ≡ false
+    → row_at name (with_values id how source values rows) ≡ row_at name rows
+row_of_others name id how source values [] other = rw other refl
+row_of_others name id how source values (r ∷ rs) other = go (bytes_eq r.id id) (bytes_eq r.id name) refl refl (row_of_others name id how source values rs other)
   where
-    go : (a b : Bool) → bytes_eq r.id id ≡ a → bytes_eq r.id name ≡ b → first_of name (with_values id how source values rs) ≡ first_of name rs
-        → first_of name (with_values id how source values (r ∷ rs)) ≡ first_of name (r ∷ rs)
+    go : (a b : Bool) → bytes_eq r.id id ≡ a → bytes_eq r.id name ≡ b → row_at name (with_values id how source values rs) ≡ row_at name rs
+        → row_at name (with_values id how source values (r ∷ rs)) ≡ row_at name (r ∷ rs)
     go true b ea eb rec = rw (ea, ap (λ (i : Text). bytes_eq i name) (same r.id id ea) ∙ other) refl
     go false true ea eb rec = rw (ea, eb) refl
     go false false ea eb rec = rw (ea, eb) rec
 
-first_past_default : (name : Text) (rows : List Row) → bytes_eq (codes "accounts") name ≡ false → first_of name (with_default rows accounts) ≡ first_of name rows
-first_past_default name rows other = go (has_row (codes "accounts") rows) refl
+-- nor is the default of a flag
+past_default : (name id : Text) (rows : List Row) → bytes_eq id name ≡ false → row_at name (with_default rows (walked.flag id)) ≡ row_at name rows
+past_default name id rows other = go (has_row id rows) refl
   where
-    go : (b : Bool) → has_row (codes "accounts") rows ≡ b → first_of name (with_default rows accounts) ≡ first_of name rows
+    go : (b : Bool) → has_row id rows ≡ b → row_at name (with_default rows (walked.flag id)) ≡ row_at name rows
     go true e = rw e refl
-    go false e = rw e (first_of_others name (codes "accounts") reading.AsWritten DefaultValue (codes "false" ∷ []) rows other)
+    go false e = rw e (row_of_others name id reading.AsWritten DefaultValue (codes "false" ∷ []) rows other)
 
--- ---- the flag
+past_flags : (name : Text) (rows : List Row) → bytes_eq (codes "accounts") name ≡ false → bytes_eq (codes "board") name ≡ false → row_at name (with_flags rows) ≡ row_at name rows
+past_flags name rows no_accounts no_board = past_default name (codes "board") (with_default rows accounts) no_board ∙ past_default name (codes "accounts") rows no_accounts
+
+-- ---- the flags
 
 -- what `clap` has for a flag that is used, or isn't
 abbrev pub word_of : Bool → Text
@@ -90,36 +99,53 @@ is_flagged (apart n v) known other = let bad : true ≡ false = sym known ∙ ot
 is_flagged (joined n v) known other = let bad : true ≡ false = sym known ∙ other in cc
 is_flagged (flag n) known other = refl
 
-flag_used : (us : List Use) → are_known us ≡ true → has_use (codes "accounts") us ≡ true → one_of (codes "accounts") (map row_of us) ≡ Some (codes "true")
-flag_used [] known h = cc
-flag_used (u ∷ us) known h = go (bytes_eq (name_of u) (codes "accounts")) refl (λ k. flag_used us (and_second (is_known u) (are_known us) known) k)
+flag_used : (name : Text) (us : List Use) → FindsFlag name → are_known us ≡ true → has_use name us ≡ true → one_of name (map row_of us) ≡ Some (codes "true")
+flag_used name [] f known h = cc
+flag_used name (u ∷ us) f known h = go (bytes_eq (name_of u) name) refl (λ k. flag_used name us f (and_second (is_known u) (are_known us) known) k)
   where
-    go : (b : Bool) → bytes_eq (name_of u) (codes "accounts") ≡ b → (has_use (codes "accounts") us ≡ true → one_of (codes "accounts") (map row_of us) ≡ Some (codes "true"))
-        → one_of (codes "accounts") (map row_of (u ∷ us)) ≡ Some (codes "true")
-    go true e rec = rw e (ap (λ (t : Text). Some t) (is_flagged u (and_first (is_known u) (are_known us) known) (ap (λ (n : Text). is_among n options) (same (name_of u) (codes "accounts") e))))
+    go : (b : Bool) → bytes_eq (name_of u) name ≡ b → (has_use name us ≡ true → one_of name (map row_of us) ≡ Some (codes "true")) → one_of name (map row_of (u ∷ us)) ≡ Some (codes "true")
+    go true e rec = rw e (ap (λ (t : Text). Some t) (is_flagged u (and_first (is_known u) (are_known us) known) (ap (λ (n : Text). is_among n options) (same (name_of u) name e) ∙ f.is_no_option)))
     go false e rec = rw e (rec (rw e at h))
 
-flag_unused : (rows : List Row) → has_row (codes "accounts") rows ≡ false
-    → one_of (codes "accounts") (with_values (codes "accounts") reading.AsWritten DefaultValue (codes "false" ∷ []) rows) ≡ Some (codes "false")
-flag_unused [] h = refl
-flag_unused (r ∷ rs) h = go (bytes_eq r.id (codes "accounts")) refl (λ k. flag_unused rs k)
+flag_unused : (name : Text) (rows : List Row) → has_row name rows ≡ false → one_of name (with_values name reading.AsWritten DefaultValue (codes "false" ∷ []) rows) ≡ Some (codes "false")
+flag_unused name [] h = rw ((bytes_eq-Decides name name).1 refl) refl
+flag_unused name (r ∷ rs) h = go (bytes_eq r.id name) refl (λ k. flag_unused name rs k)
   where
-    go : (b : Bool) → bytes_eq r.id (codes "accounts") ≡ b
-        → (has_row (codes "accounts") rs ≡ false → one_of (codes "accounts") (with_values (codes "accounts") reading.AsWritten DefaultValue (codes "false" ∷ []) rs) ≡ Some (codes "false"))
-        → one_of (codes "accounts") (with_values (codes "accounts") reading.AsWritten DefaultValue (codes "false" ∷ []) (r ∷ rs)) ≡ Some (codes "false")
+    go : (b : Bool) → bytes_eq r.id name ≡ b
+        → (has_row name rs ≡ false → one_of name (with_values name reading.AsWritten DefaultValue (codes "false" ∷ []) rs) ≡ Some (codes "false"))
+        → one_of name (with_values name reading.AsWritten DefaultValue (codes "false" ∷ []) (r ∷ rs)) ≡ Some (codes "false")
     go true e rec = let bad : true ≡ false = rw e at h in cc
     go false e rec = rw e (rw e (rec (rw e at h)))
 
-flag_by_uses : (us : List Use) → are_known us ≡ true → one_of (codes "accounts") (with_default (map row_of us) accounts) ≡ Some (word_of (has_flag (codes "accounts") us))
-flag_by_uses us known = go (has_flag (codes "accounts") us) refl
+-- with its default a flag has the word of whether it was used
+flag_word : (name : Text) (rows : List Row) (b : Bool) → has_row name rows ≡ b → (b ≡ true → one_of name rows ≡ Some (codes "true")) → one_of name (with_default rows (walked.flag name)) ≡ Some (word_of b)
+flag_word name rows true there is = rw there (is refl)
+flag_word name rows false there is = rw there (flag_unused name rows there)
+
+-- a name has a row where it has one that is found
+row_there : (name : Text) (rows : List Row) → has_row name rows ≡ is_some (row_at name rows)
+row_there name [] = refl
+row_there name (r ∷ rs) = go (bytes_eq r.id name) refl (row_there name rs)
   where
-    go : (b : Bool) → has_flag (codes "accounts") us ≡ b → one_of (codes "accounts") (with_default (map row_of us) accounts) ≡ Some (word_of (has_flag (codes "accounts") us))
-    go true e =
-        let there : has_row (codes "accounts") (map row_of us) ≡ true = sym (use_row (codes "accounts") us) ∙ e in
-        rw (there, e) (flag_used us known e)
-    go false e =
-        let there : has_row (codes "accounts") (map row_of us) ≡ false = sym (use_row (codes "accounts") us) ∙ e in
-        rw (there, e) (flag_unused (map row_of us) there)
+    go : (b : Bool) → bytes_eq r.id name ≡ b → has_row name rs ≡ is_some (row_at name rs) → has_row name (r ∷ rs) ≡ is_some (row_at name (r ∷ rs))
+    go true e rec = rw e refl
+    go false e rec = rw e rec
+
+-- what the uses of flags come to
+abbrev HasWord : Text → Type 0
+HasWord name = (us : List Use) → are_known us ≡ true → one_of name (with_flags (map row_of us)) ≡ Some (word_of (has_flag name us))
+
+accounts_word : HasWord (codes "accounts")
+accounts_word us known =
+    ap (option_and_then row_text) (past_default (codes "accounts") (codes "board") (with_default (map row_of us) accounts) refl)
+    ∙ flag_word (codes "accounts") (map row_of us) (has_flag (codes "accounts") us) (sym (use_row (codes "accounts") us)) (flag_used (codes "accounts") us finds_accounts known)
+
+board_word : HasWord (codes "board")
+board_word us known =
+    let past = past_default (codes "board") (codes "accounts") (map row_of us) refl in
+    flag_word (codes "board") (with_default (map row_of us) accounts) (has_flag (codes "board") us)
+    (row_there (codes "board") (with_default (map row_of us) accounts) ∙ ap is_some past ∙ sym (row_there (codes "board") (map row_of us)) ∙ sym (use_row (codes "board") us))
+    (λ h. ap (option_and_then row_text) past ∙ flag_used (codes "board") us finds_board known h)
 
 -- ---- values are plain
 
@@ -183,10 +209,10 @@ record Two (a b : Option ℕ) : Type 0 where
   is_x : a ≡ Some x
   is_y : b ≡ Some y
 
-two : (k : Bool) (a b : Option ℕ) (o : Order) → run_from k a b ≡ Some o → Two a b
-two k (Some x) (Some y) o e = record { x = x; y = y; is_x = refl; is_y = refl }
-two k None b o e = cc
-two k (Some x) None o e = cc
+two : (k l : Bool) (a b : Option ℕ) (o : Order) → run_from k l a b ≡ Some o → Two a b
+two k l (Some x) (Some y) o e = record { x = x; y = y; is_x = refl; is_y = refl }
+two k l None b o e = cc
+two k l (Some x) None o e = cc
 
 record Four (a b c d : Option ℕ) : Type 0 where
   first : Two a b
@@ -205,11 +231,11 @@ record Plains (m j w q : Option Text) : Type 0 where
   workers : (v : Text) → w ≡ Some v → is_plain v ≡ true
   queue : (v : Text) → q ≡ Some v → is_plain v ≡ true
 
-plains : (m j : Option Text) (k : Bool) (w q : Option Text) (o : Order) → order_from m j k (number_or 4 1 16 w) (number_or 8 1 64 q) ≡ Some o → Plains m j w q
-plains None None k w q o e =
-    let t = two k (number_or 4 1 16 w) (number_or 8 1 64 q) o e in
+plains : (m j : Option Text) (k l : Bool) (w q : Option Text) (o : Order) → order_from m j k l (number_or 4 1 16 w) (number_or 8 1 64 q) ≡ Some o → Plains m j w q
+plains None None k l w q o e =
+    let t = two k l (number_or 4 1 16 w) (number_or 8 1 64 q) o e in
     record { make = λ v h. cc; jobs = λ v h. cc; workers = plain_or 4 1 16 t.x w t.is_x; queue = plain_or 8 1 64 t.y q t.is_y }
-plains (Some m) (Some j) false w q o e =
+plains (Some m) (Some j) false false w q o e =
     let t = four (number_in 0 4294967295 m) (number_in 1 2000 j) (number_or 4 1 16 w) (number_or 8 1 64 q) o e in
     record {
       make = plain_or 0 0 4294967295 t.first.x (Some m) t.first.is_x;
@@ -217,15 +243,16 @@ plains (Some m) (Some j) false w q o e =
       workers = plain_or 4 1 16 t.second.x w t.second.is_x;
       queue = plain_or 8 1 64 t.second.y q t.second.is_y;
     }
-plains (Some m) (Some j) true w q o e = cc
-plains None (Some j) k w q o e = cc
-plains (Some m) None k w q o e = cc
+plains (Some m) (Some j) true l w q o e = cc
+plains (Some m) (Some j) false true w q o e = cc
+plains None (Some j) k l w q o e = cc
+plains (Some m) None k l w q o e = cc
 
 order_plain : (us : List Use) (o : Order) → order_of us ≡ Some o → (n v : Text) → Finds n → value_of n us ≡ Some v → is_plain v ≡ true
 order_plain us o e n v f h = go (bytes_eq (codes "workers") n) (bytes_eq (codes "queue") n) (bytes_eq (codes "make") n) (bytes_eq (codes "jobs") n) refl refl refl refl
   where
     p : Plains (value_of (codes "make") us) (value_of (codes "jobs") us) (value_of (codes "workers") us) (value_of (codes "queue") us)
-    p = plains _ _ (has_flag (codes "accounts") us) _ _ o e
+    p = plains _ _ (has_flag (codes "accounts") us) (has_flag (codes "board") us) _ _ o e
 
     at : (m : Text) → bytes_eq m n ≡ true → value_of m us ≡ Some v
     at m s = ap (λ k. value_of k us) ((bytes_eq-Decides m n).0 s) ∙ h
@@ -263,20 +290,27 @@ order_agrees words o h =
 abbrev pub given : List Text → Text → Option Text
 given words name = first_of name (matches_of monitor_app words)
 
-abbrev pub flag_given : List Text → Bool
-flag_given words = is_true (one_of (codes "accounts") (matches_of monitor_app words))
+abbrev pub flag_given : List Text → Text → Bool
+flag_given words name = is_true (one_of name (matches_of monitor_app words))
 
 abbrev pub order_given : List Text → Option Order
-order_given words = order_from (given words (codes "make")) (given words (codes "jobs")) (flag_given words)
+order_given words = order_from (given words (codes "make")) (given words (codes "jobs")) (flag_given words (codes "accounts")) (flag_given words (codes "board"))
     (number_or 4 1 16 (given words (codes "workers"))) (number_or 8 1 64 (given words (codes "queue")))
 
-order_by_rows : (words : List Text) (us : List Use) → are_known us ≡ true → matches_of monitor_app words ≡ with_default (map row_of us) accounts → order_given words ≡ order_of us
+order_by_rows : (words : List Text) (us : List Use) → are_known us ≡ true → matches_of monitor_app words ≡ with_flags (map row_of us) → order_given words ≡ order_of us
 order_by_rows words us known e =
-    let is : (n : Text) → Finds n → bytes_eq (codes "accounts") n ≡ false → given words n ≡ value_of n us =
-    λ n f other. ap (first_of n) e ∙ first_past_default n (map row_of us) other ∙ first_is_text n us ∙ sym (value_is_text n us f known) in
-    let flagged : flag_given words ≡ has_flag (codes "accounts") us =
-    ap (λ rows. is_true (one_of (codes "accounts") rows)) e ∙ ap is_true (flag_by_uses us known) ∙ flag_reads (has_flag (codes "accounts") us) in
-    rw (is (codes "make") finds_make refl, is (codes "jobs") finds_jobs refl, is (codes "workers") finds_workers refl, is (codes "queue") finds_queue refl, flagged) refl
+    let is : (n : Text) → Finds n → bytes_eq (codes "accounts") n ≡ false → bytes_eq (codes "board") n ≡ false → given words n ≡ value_of n us =
+    λ n f no_accounts no_board. ap (first_of n) e ∙ ap (option_and_then (λ r. slice_get r.values 0)) (past_flags n (map row_of us) no_accounts no_board) ∙ first_is_text n us ∙ sym (value_is_text n us f known) in
+    let flagged : (n : Text) → HasWord n → flag_given words n ≡ has_flag n us =
+    λ n word. ap (λ rows. is_true (one_of n rows)) e ∙ ap is_true (word us known) ∙ flag_reads (has_flag n us) in
+    rw (
+      is (codes "make") finds_make refl refl,
+      is (codes "jobs") finds_jobs refl refl,
+      is (codes "workers") finds_workers refl refl,
+      is (codes "queue") finds_queue refl refl,
+      flagged (codes "accounts") accounts_word,
+      flagged (codes "board") board_word,
+    ) refl
 
 pub order_is_given : (words : List Text) (o : Order) → IsOrder words o → order_given words ≡ Some o
 order_is_given words o h =
@@ -295,32 +329,44 @@ given_is_order words o d e g =
       says = sym (order_by_rows words r.uses (fresh_is_known r.uses r.fresh) r.rows) ∙ g;
     }
 
-pub assembled : (words : List Text) (m j w q : Option Text) (k : Bool) (workers queue : Option ℕ) (r : Option Order)
-    → m ≡ given words (codes "make") → j ≡ given words (codes "jobs") → w ≡ given words (codes "workers") → q ≡ given words (codes "queue") → k ≡ flag_given words
-    → workers ≡ number_or 4 1 16 w → queue ≡ number_or 8 1 64 q → r ≡ order_from m j k workers queue → r ≡ order_given words
-assembled words m j w q k workers queue r em ej ew eq ek eworkers equeue e =
-    e ∙ ap₂ (λ a b. order_from a b k workers queue) em ej
-    ∙ ap (λ a. order_from (given words (codes "make")) (given words (codes "jobs")) a workers queue) ek
-    ∙ ap₂ (order_from (given words (codes "make")) (given words (codes "jobs")) (flag_given words)) (eworkers ∙ ap (number_or 4 1 16) ew) (equeue ∙ ap (number_or 8 1 64) eq)
+pub assembled : (words : List Text) (m j w q : Option Text) (k l : Bool) (workers queue : Option ℕ) (r : Option Order)
+    → m ≡ given words (codes "make") → j ≡ given words (codes "jobs") → w ≡ given words (codes "workers") → q ≡ given words (codes "queue") → k ≡ flag_given words (codes "accounts") → l ≡ flag_given words (codes "board")
+    → workers ≡ number_or 4 1 16 w → queue ≡ number_or 8 1 64 q → r ≡ order_from m j k l workers queue → r ≡ order_given words
+assembled words m j w q k l workers queue r em ej ew eq ek el eworkers equeue e =
+    e ∙ ap₂ (λ a b. order_from a b k l workers queue) em ej
+    ∙ ap₂ (λ a b. order_from (given words (codes "make")) (given words (codes "jobs")) a b workers queue) ek el
+    ∙ ap₂ (order_from (given words (codes "make")) (given words (codes "jobs")) (flag_given words (codes "accounts")) (flag_given words (codes "board"))) (eworkers ∙ ap (number_or 4 1 16) ew) (equeue ∙ ap (number_or 8 1 64) eq)
 
 -- what `get_flag` answers
-pub flag_is : (f : Found) (words : List Text) (answer : Bool) → has_dashes words ≡ false → fault_of monitor_app words ≡ [] → rows_of f ≡ matches_of monitor_app words
-    → (one_text f (codes "accounts") ≡ Some (codes "true") → answer ≡ true) → (one_text f (codes "accounts") ≡ Some (codes "false") → answer ≡ false)
-    → answer ≡ flag_given words
-flag_is f words answer d passes rows used unused = go (has_flag (codes "accounts") r.uses) refl
+flag_is : (name : Text) → HasWord name → (f : Found) (words : List Text) (answer : Bool) → has_dashes words ≡ false → fault_of monitor_app words ≡ [] → rows_of f ≡ matches_of monitor_app words
+    → (one_text f name ≡ Some (codes "true") → answer ≡ true) → (one_text f name ≡ Some (codes "false") → answer ≡ false)
+    → answer ≡ flag_given words name
+flag_is name word f words answer d passes rows used unused = go (has_flag name r.uses) refl
   where
     r : IsRead words
     r = taken_is_read words d passes
 
-    given_so : one_of (codes "accounts") (matches_of monitor_app words) ≡ Some (word_of (has_flag (codes "accounts") r.uses))
-    given_so = ap (one_of (codes "accounts")) r.rows ∙ flag_by_uses r.uses (fresh_is_known r.uses r.fresh)
+    given_so : one_of name (matches_of monitor_app words) ≡ Some (word_of (has_flag name r.uses))
+    given_so = ap (one_of name) r.rows ∙ word r.uses (fresh_is_known r.uses r.fresh)
 
-    text : one_text f (codes "accounts") ≡ Some (word_of (has_flag (codes "accounts") r.uses))
-    text = one_text-rows f (codes "accounts") ∙ ap (one_of (codes "accounts")) rows ∙ given_so
+    text : one_text f name ≡ Some (word_of (has_flag name r.uses))
+    text = one_text-rows f name ∙ ap (one_of name) rows ∙ given_so
 
-    go : (b : Bool) → has_flag (codes "accounts") r.uses ≡ b → answer ≡ flag_given words
+    go : (b : Bool) → has_flag name r.uses ≡ b → answer ≡ flag_given words name
     go true e = used (text ∙ ap (λ (b : Bool). Some (word_of b)) e) ∙ sym (ap is_true (given_so ∙ ap (λ (b : Bool). Some (word_of b)) e))
     go false e = unused (text ∙ ap (λ (b : Bool). Some (word_of b)) e) ∙ sym (ap is_true (given_so ∙ ap (λ (b : Bool). Some (word_of b)) e))
+
+-- what it answers for each of the flags
+abbrev pub FlagAnswers : Text → Type 0
+FlagAnswers name = (f : Found) (words : List Text) (answer : Bool) → has_dashes words ≡ false → fault_of monitor_app words ≡ [] → rows_of f ≡ matches_of monitor_app words
+    → (one_text f name ≡ Some (codes "true") → answer ≡ true) → (one_text f name ≡ Some (codes "false") → answer ≡ false)
+    → answer ≡ flag_given words name
+
+pub accounts_is : FlagAnswers (codes "accounts")
+accounts_is = flag_is (codes "accounts") accounts_word
+
+pub board_is : FlagAnswers (codes "board")
+board_is = flag_is (codes "board") board_word
 
 pub text_given : (f : Found) (words : List Text) (n : Text) → rows_of f ≡ matches_of monitor_app words → first_value f n ≡ given words n
 text_given f words n e = first_value-rows f n ∙ ap (first_of n) e

@@ -154,25 +154,33 @@ default_none rows a e = elim (has_row a.id rows) as (λ b. (if b || is_empty a.d
   | false ↦ rw e refl
 ]
 
--- the flag's rule
+-- the rules of the flags
 abbrev pub accounts : Rule
 accounts = walked.flag (codes "accounts")
 
-pub default_flag : (rows : List Row) → default_fault rows accounts ≡ []
-default_flag rows = elim (has_row accounts.id rows) as (λ b. (if b || is_empty accounts.defaults then [] else given_default_fault accounts accounts.defaults) ≡ []) [
+abbrev pub board : Rule
+board = walked.flag (codes "board")
+
+-- each flag that isn't used gets its default
+abbrev pub with_flags : List Row → List Row
+with_flags rows = with_default (with_default rows accounts) board
+
+pub default_flag : (name : Text) (rows : List Row) → default_fault rows (walked.flag name) ≡ []
+default_flag name rows = elim (has_row name rows) as (λ b. (if b || is_empty (walked.flag name).defaults then [] else given_default_fault (walked.flag name) (walked.flag name).defaults) ≡ []) [
   | true ↦ refl
   | false ↦ refl
 ]
 
 pub all_faults : (a b c d : Rule) (rows : List Row) → a.defaults ≡ [] → b.defaults ≡ [] → c.defaults ≡ [] → d.defaults ≡ []
-    → defaults_fault rows (a ∷ b ∷ c ∷ d ∷ accounts ∷ []) ≡ []
+    → defaults_fault rows (a ∷ b ∷ c ∷ d ∷ accounts ∷ board ∷ []) ≡ []
 unfolding defaults_fault
 all_faults a b c d rows ea eb ec ed = rw (
   default_none rows a ea,
   default_none (with_default rows a) b eb,
   default_none (with_default (with_default rows a) b) c ec,
   default_none (with_default (with_default (with_default rows a) b) c) d ed,
-  default_flag (with_default (with_default (with_default (with_default rows a) b) c) d),
+  default_flag (codes "accounts") (with_default (with_default (with_default (with_default rows a) b) c) d),
+  default_flag (codes "board") (with_default (with_default (with_default (with_default (with_default rows a) b) c) d) accounts),
 ) refl
 
 pub no_check : (rows : List Row) (has : Bool) → check_fault top rows has ≡ []
@@ -194,8 +202,8 @@ fault_is words =
     (defaults_fault rows top.rules) (check_fault top (finished top.rules end.held) (is_some (entered (built monitor_app) end.stopped)))
     (no_entry end.stopped) (all_faults (rule (codes "workers")) (rule (codes "queue")) (rule (codes "make")) (rule (codes "jobs")) rows refl refl refl refl) (no_check (finished top.rules end.held) (is_some (entered (built monitor_app) end.stopped)))
 
-pub matches_is : (words : List Text) → matches_of monitor_app words ≡ with_default (rest_rows (walk_from nothing_held) words) accounts
-matches_is words = ap (λ r. with_default r accounts) (four_defaults (rule (codes "workers")) (rule (codes "queue")) (rule (codes "make")) (rule (codes "jobs")) (rest_rows (walk_from nothing_held) words) refl refl refl refl)
+pub matches_is : (words : List Text) → matches_of monitor_app words ≡ with_flags (rest_rows (walk_from nothing_held) words)
+matches_is words = ap with_flags (four_defaults (rule (codes "workers")) (rule (codes "queue")) (rule (codes "make")) (rule (codes "jobs")) (rest_rows (walk_from nothing_held) words) refl refl refl refl)
 
 -- ---- what clap takes is of the form
 
@@ -329,12 +337,12 @@ pub record IsRead (words : List Text) : Type 0 where
   pub uses : List Use
   pub spelt : words ≡ words_of uses
   pub fresh : is_fresh [] uses ≡ true
-  pub rows : matches_of monitor_app words ≡ with_default (map row_of uses) accounts
+  pub rows : matches_of monitor_app words ≡ with_flags (map row_of uses)
 
 pub taken_is_read : (words : List Text) → has_dashes words ≡ false → fault_of monitor_app words ≡ [] → IsRead words
 taken_is_read words d e =
     let r = sound words [] None [] refl d (sym (fault_is words) ∙ e) in
-    record { uses = r.uses; spelt = r.spelt; fresh = r.fresh; rows = matches_is words ∙ ap (λ rs. with_default rs accounts) r.rows }
+    record { uses = r.uses; spelt = r.spelt; fresh = r.fresh; rows = matches_is words ∙ ap with_flags r.rows }
 
 -- ---- what is of the form is taken
 
@@ -452,9 +460,9 @@ complete (u ∷ rest) = one_more u rest (complete rest)
 
 pub record IsTaken (uses : List Use) : Type 0 where
   pub passes : fault_of monitor_app (words_of uses) ≡ []
-  pub rows : matches_of monitor_app (words_of uses) ≡ with_default (map row_of uses) accounts
+  pub rows : matches_of monitor_app (words_of uses) ≡ with_flags (map row_of uses)
 
 pub spelt_is_taken : (uses : List Use) → is_fresh [] uses ≡ true → are_plain uses ≡ true → IsTaken uses
 spelt_is_taken uses fresh plain =
     let t = complete uses [] None [] refl refl fresh plain in
-    record { passes = fault_is (words_of uses) ∙ t.passes; rows = matches_is (words_of uses) ∙ ap (λ rs. with_default rs accounts) t.rows }
+    record { passes = fault_is (words_of uses) ∙ t.passes; rows = matches_is (words_of uses) ∙ ap with_flags t.rows }

@@ -44,7 +44,7 @@ abbrev pub options : List Text
 options = codes "workers" ∷ codes "queue" ∷ codes "make" ∷ codes "jobs" ∷ []
 
 abbrev pub flags : List Text
-flags = codes "accounts" ∷ []
+flags = codes "accounts" ∷ codes "board" ∷ []
 
 abbrev pub is_among : Text → List Text → Bool
 is_among name names = list_any (λ known. bytes_eq known name) names
@@ -77,24 +77,24 @@ abbrev pub number_or : ℕ → ℕ → ℕ → Option Text → Option ℕ
 number_or default least most None = Some default
 number_or default least most (Some text) = number_in least most text
 
-abbrev pub run_from : Bool → Option ℕ → Option ℕ → Option Order
-run_from accounts (Some workers) (Some queue) = Some (Run workers queue accounts)
-run_from accounts _ _ = None
+abbrev pub run_from : Bool → Bool → Option ℕ → Option ℕ → Option Order
+run_from accounts board (Some workers) (Some queue) = Some (Run workers queue accounts board)
+run_from accounts board _ _ = None
 
 abbrev pub make_from : Option ℕ → Option ℕ → Option ℕ → Option ℕ → Option Order
 make_from (Some seed) (Some jobs) (Some workers) (Some queue) = Some (Make seed jobs workers queue)
 make_from _ _ _ _ = None
 
--- the order of these values: `--make` and `--jobs` stand together or not at all, and not beside `--accounts`
-abbrev pub order_from : Option Text → Option Text → Bool → Option ℕ → Option ℕ → Option Order
-order_from None None accounts workers queue = run_from accounts workers queue
-order_from (Some make) (Some jobs) false workers queue =
+-- the order of these values: `--make` and `--jobs` stand together or not at all, and not beside `--accounts` or `--board`
+abbrev pub order_from : Option Text → Option Text → Bool → Bool → Option ℕ → Option ℕ → Option Order
+order_from None None accounts board workers queue = run_from accounts board workers queue
+order_from (Some make) (Some jobs) false false workers queue =
     make_from (number_in 0 4294967295 make) (number_in 1 2000 jobs) workers queue
-order_from _ _ _ _ _ = None
+order_from _ _ _ _ _ _ = None
 
--- the order that the options and the flag say: 1 to 16 workers or 4, a queue of 1 to 64 or 8
+-- the order that the options and flags say: 1 to 16 workers or 4, a queue of 1 to 64 or 8
 abbrev pub order_of : List Use → Option Order
-order_of uses = order_from (value_of (codes "make") uses) (value_of (codes "jobs") uses) (has_flag (codes "accounts") uses)
+order_of uses = order_from (value_of (codes "make") uses) (value_of (codes "jobs") uses) (has_flag (codes "accounts") uses) (has_flag (codes "board") uses)
     (number_or 4 1 16 (value_of (codes "workers") uses))
     (number_or 8 1 64 (value_of (codes "queue") uses))
 

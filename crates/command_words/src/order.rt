@@ -18,6 +18,8 @@ pub enum Order {
         queue: u32,
         /// Whether the accounts are those of an accounts file, and the closing balances go to one.
         accounts: bool,
+        /// Whether a line of the operator's board follows the listing.
+        board: bool,
     },
     /// Run a batch that is made.
     Make {
@@ -59,7 +61,8 @@ pub fn read_words(alloc: Global, words: &[String]) -> Result<Order, WordsError>
     let make = matches.get_str("make");
     let jobs = matches.get_str("jobs");
     let accounts = matches.get_flag("accounts");
-    match order_from(make, jobs, accounts, workers, queue) {
+    let board = matches.get_flag("board");
+    match order_from(make, jobs, accounts, board, workers, queue) {
         Some(order) => Ok(order),
         None => Err(WordsError::BadWords),
     }
@@ -78,24 +81,26 @@ fn is_dashes(word: &String) -> bool
     word.as_str() == "--"
 }
 
-/// The order of these values. `--make` and `--jobs` stand together or not at all, and not beside `--accounts`.
+/// The order of these values. `--make` and `--jobs` stand together or not at all, and not beside `--accounts` or `--board`.
 fn order_from(
     make: Option<&str>,
     jobs: Option<&str>,
     accounts: bool,
+    board: bool,
     workers: Option<u32>,
     queue: Option<u32>,
 ) -> Option<Order>
     ensures { result ≡ order_from (option_map (λ s. s.now) make.entry) (option_map (λ s. s.now) jobs.entry)
-        accounts workers queue }
+        accounts board workers queue }
 {
     let workers = workers?;
     let queue = queue?;
-    match (make, jobs, accounts) {
-        (None, None, accounts) => Some(Order::Run {
+    match (make, jobs, accounts || board) {
+        (None, None, _) => Some(Order::Run {
             workers,
             queue,
             accounts,
+            board,
         }),
         (Some(make), Some(jobs), false) => made(make, jobs, workers, queue),
         _ => None,

@@ -367,7 +367,8 @@ fn a_batch_has_its_listing(rt: HostRuntime) -> Result<(), Fail> {
 }
 
 /// Lists of words that say nothing, and those with which no byte of a listing is another.
-const WRONG_WORDS: &str = "--help;--workers 0;--queue 3 --queue 3;--make 7;--jobs 1";
+const WRONG_WORDS: &str =
+    "--help;--workers 0;--queue 3 --queue 3;--make 7;--jobs 1;--board --make 7 --jobs 1";
 
 const STAFFS: &str = "--workers 1;--workers 4 --queue 1;--workers 16 --queue 64";
 
@@ -386,6 +387,23 @@ fn no_byte_depends_on_the_workers(rt: HostRuntime) -> Result<(), Fail> {
     for words in STAFFS.split(';') {
         let run = run(&rt, rt.alloc(), words, TIGHT, &WIDE)?;
         run.check(&rt, words, Status::Done, TIGHT_LISTING);
+    }
+    Ok(())
+}
+
+/// The line of a board behind the listing of three jobs, of which one is refused.
+const BOARD: &[u8] = b"BOARD ARRIVED 3 ACCEPTED 2 REFUSED 1 ENDED 2 PRINTED 3\n";
+
+/// Lists of words with which that line stands there.
+const BOARDS: &str = "--workers 4 --queue 1 --board;--board --workers 1";
+
+#[test]
+fn a_board_has_its_line_behind_the_listing(rt: HostRuntime) -> Result<(), Fail> {
+    let mut shown = Vec::from_slice(rt.alloc(), TIGHT_LISTING)?;
+    shown.extend_from_slice(BOARD)?;
+    for words in BOARDS.split(';') {
+        let run = run(&rt, rt.alloc(), words, TIGHT, &WIDE)?;
+        run.check(&rt, words, Status::Done, shown.as_slice());
     }
     Ok(())
 }

@@ -1,5 +1,5 @@
 //! Workers, and an office at which they settle their tickets.
-ghost use Rattle.std.specs.Prelude.{◌≡◌, ◌≤◌, IfOk, ⊤, length};
+ghost use Rattle.std.specs.Prelude.{◌≡◌, ◌≤◌, IfOk, ⊤, false, length};
 
 use crate::cases::see;
 use crate::reading::{jobs_of, read, result_of};
@@ -7,9 +7,9 @@ use account_book::Book;
 use batch_io::OpenGate;
 use crossbeam_utils::CachePadded;
 use deck_reader::Job;
-use job_queue::{FreshQueue, JobQueue, QueueBrand, TakePass};
+use job_queue::{FreshQueue, JobQueue, TakePass};
 use job_runner::{Brought, Desk, Ended};
-use office::{Admitted, Office, Standing};
+use office::{Admitted, Office, OfficeBrand, Standing};
 use std::alloc::{AllocError, Global};
 use std::marker::Brand;
 use std::process::Abort;
@@ -37,9 +37,13 @@ fn open_batch(alloc: Global, input: &[u8]) -> Result<Opening, Fail> {
 }
 
 /// Lets jobs arrive.
-fn let_in<B: QueueBrand>(office: &mut Office<B>, jobs: &[Arc<Job>]) -> Result<(), AllocError> {
+fn let_in<B: OfficeBrand, R: Wait>(
+    rt: &R,
+    office: &mut Office<B>,
+    jobs: &[Arc<Job>],
+) -> Result<(), AllocError> {
     for job in jobs {
-        let _arrived = office.arrive(job.clone()?);
+        let _arrived = office.arrive(rt, job.clone()?);
     }
     Ok(())
 }
@@ -55,7 +59,7 @@ struct Alone {
     reserved: u64,
 }
 
-fn worked_alone<B: QueueBrand, R: Wait>(
+fn worked_alone<B: OfficeBrand, R: Wait>(
     rt: &R,
     alloc: Global,
     fresh: FreshQueue,
@@ -65,10 +69,11 @@ fn worked_alone<B: QueueBrand, R: Wait>(
     requires name { fresh.blank.name ≡ B.name }
     requires parts { fresh.blank.parts ≡ B.parts }
     requires table { fresh.ring.table.shared.table_id ≡ B.table }
+    requires board { B.boarded ≡ false }
 {
     let (queue, put, mut pass, settled) = fresh.open::<B>();
     let mut office = Office::new(alloc, opening.book, put, settled)?;
-    let_in(&mut office, opening.jobs.as_slice())?;
+    let_in(rt, &mut office, opening.jobs.as_slice())?;
     office.close_arrivals();
     let office = Mutex::new(office);
     let end = work(rt, alloc, &office, &queue, &mut pass, desk, &OpenGate);
@@ -103,7 +108,7 @@ struct Decides {
     stops: bool,
 }
 
-impl<B: QueueBrand> Caller<B> for Decides {
+impl<B: OfficeBrand> Caller<B> for Decides {
     ghost went = { λ a b. ⊤ };
 
     ghost finished = { λ a. ⊤ };
@@ -125,7 +130,7 @@ impl<B: QueueBrand> Caller<B> for Decides {
 }
 
 /// Sees that so much is left in the queue once the workers at these desks have returned, and nothing is brought back.
-fn check_left<B: QueueBrand + Send + Sync, R: Threads + Wait + Sync + Abort>(
+fn check_left<B: OfficeBrand + Send + Sync, R: Threads + Wait + Sync + Abort>(
     rt: &R,
     alloc: Global,
     fresh: FreshQueue,
@@ -139,10 +144,11 @@ fn check_left<B: QueueBrand + Send + Sync, R: Threads + Wait + Sync + Abort>(
     requires name { fresh.blank.name ≡ B.name }
     requires parts { fresh.blank.parts ≡ B.parts }
     requires table { fresh.ring.table.shared.table_id ≡ B.table }
+    requires board { B.boarded ≡ false }
 {
     let (queue, put, pass, settled) = fresh.open::<B>();
     let mut office = Office::new(alloc, opening.book, put, settled)?;
-    let_in(&mut office, opening.jobs.as_slice())?;
+    let_in(rt, &mut office, opening.jobs.as_slice())?;
     office.close_arrivals();
     let caller = Decides { stops };
     let (pooled, _caller) = run_pool(rt, alloc, office, queue, pass, desks, &OpenGate, caller);
@@ -204,15 +210,15 @@ END.
 ";
 
 /// The number of the job whose result is handed out next.
-fn hand_out<B: QueueBrand>(office: &mut Office<B>) -> Option<u32> {
-    match office.next_section() {
+fn hand_out<B: OfficeBrand, R: Wait>(rt: &R, office: &mut Office<B>) -> Option<u32> {
+    match office.next_section(rt) {
         Some(Brought::Ended(ended)) => Some(ended.job().number),
         Some(Brought::Refused) | None => None,
     }
 }
 
 /// Lets the first job of two end, after the second one's result was brought in its place.
-fn first_ends<B: QueueBrand, R: Wait + Abort>(
+fn first_ends<B: OfficeBrand, R: Wait + Abort>(
     rt: &R,
     office: &mut Office<B>,
     queue: &JobQueue<B>,
@@ -231,19 +237,19 @@ fn first_ends<B: QueueBrand, R: Wait + Abort>(
     let Some(ticket) = queue.take(rt, pass) else {
         return Err(Fail::from("a ticket"));
     };
-    let Err(stranger) = office.settle(pass, ticket, other) else {
+    let Err(stranger) = office.settle(rt, pass, ticket, other) else {
         return Err(Fail::from("the second job's result doesn't end the first"));
     };
     see(rt, "it goes on", stranger.kept == Standing::Running);
     see(rt, "its reserve is owed", pass.owed() == 100);
-    let settled = office.settle(pass, stranger.ticket, own).is_ok();
+    let settled = office.settle(rt, pass, stranger.ticket, own).is_ok();
     see(rt, "its own result", settled);
     see(rt, "nothing is owed", pass.owed() == 0);
     Ok(())
 }
 
 /// Sees what an office decides of both jobs, before and after the first one's end.
-fn check_waiting<B: QueueBrand, R: Wait + Abort>(
+fn check_waiting<B: OfficeBrand, R: Wait + Abort>(
     rt: &R,
     alloc: Global,
     fresh: FreshQueue,
@@ -254,17 +260,22 @@ fn check_waiting<B: QueueBrand, R: Wait + Abort>(
     requires name { fresh.blank.name ≡ B.name }
     requires parts { fresh.blank.parts ≡ B.parts }
     requires table { fresh.ring.table.shared.table_id ≡ B.table }
+    requires board { B.boarded ≡ false }
 {
     let (queue, put, mut pass, settled) = fresh.open::<B>();
     let mut office = Office::new(alloc, opening.book, put, settled)?;
-    let_in(&mut office, opening.jobs.as_slice())?;
+    let_in(rt, &mut office, opening.jobs.as_slice())?;
     first_ends(rt, &mut office, &queue, &mut pass, own, other)?;
     let second = Admitted::Accepted { job: 2 };
     see(rt, "then the second", office.admit(rt, &queue) == second);
     let none = Admitted::NoneArrived;
     see(rt, "no other", office.admit(rt, &queue) == none);
-    see(rt, "the first section", hand_out(&mut office) == Some(1));
-    see(rt, "no other section", hand_out(&mut office).is_none());
+    see(
+        rt,
+        "the first section",
+        hand_out(rt, &mut office) == Some(1),
+    );
+    see(rt, "no other section", hand_out(rt, &mut office).is_none());
     Ok(())
 }
 

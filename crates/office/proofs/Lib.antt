@@ -5,3 +5,4 @@ mod Running
 mod Slips
 mod Offices
 mod Exact
+mod Boards

@@ -143,18 +143,6 @@ below_there openings accounts (Some account) same below = omega (arith, same, be
 pub fitting : (r : RegisterView) (job : JobView) (accounts : ℕ) → RegisterStands r → accounts ≡ length r.core.openings → IsBelow accounts job.account → length r.jobs < 4294967295 → MayArrive r.core (claim_of_job job)
 fitting r job accounts stands same below few = may_arrive r job stands (below_there r.core.openings accounts job.account same below) few
 
--- whether it arrived, or memory was wanting
-pub kept_arrive : {T E : Type 0} (o : OfficeView) (put : List Ticket) (job : JobView) (register : RegisterView) (found : Result T E) → Kept o put → MayArrive o.register.core (claim_of_job job) → job.number ≡ length o.register.jobs + 1
-    → OnOk found (register ≡ arrived o.register job) → OnErr found (register ≡ o.register) → Kept (with_register o register) put
-kept_arrive o put job register (Ok x) is may number new same = subst (λ (r : RegisterView). Kept (with_register o r) put) (sym new) (kept_arrived o put job is may number)
-kept_arrive o put job register (Err x) is may number new same = subst (λ (r : RegisterView). Kept (with_register o r) put) (sym same) is
-
--- whether a section was printed or not
-pub kept_print : (o : OfficeView) (put : List Ticket) (register : RegisterView) (found : Option Brought) → Kept o put → (IsSome found ↔ MayPrint o.register.core)
-    → IfNone found (register ≡ o.register) → OnSome found (register ≡ printed o.register) → Kept (with_register o register) put
-kept_print o put register None is may same printed_is = subst (λ (r : RegisterView). Kept (with_register o r) put) (sym same) is
-kept_print o put register (Some brought) is may same printed_is = subst (λ (r : RegisterView). Kept (with_register o r) put) (sym printed_is) (kept_printed o put is (may.0 refl))
-
 -- what can be decided of the next undecided job says what may be done
 refuse_flawed : (core : Core) (flaw : Option Flaw) (account : Option ℕ) (reserve : ℕ) (found : Flaw) → flaw ≡ Some found → NeverCovers core (account_by flaw account) reserve
 refuse_flawed core None account reserve found is = cc

@@ -10,4 +10,6 @@ pub mod Prospects
 pub mod Answers
 pub mod Arrivals
 pub mod Kept
+pub mod Posted
+pub mod Shown
 pub mod Laws

@@ -2,13 +2,17 @@
 #![tactic(auto)]
 
 mod answers;
+mod board;
+mod brand;
 mod laws;
 mod office;
+mod posting;
 mod prospect;
 mod register;
 mod standing;
 
 pub use answers::{Admitted, ArriveError, Stranger};
+pub use brand::OfficeBrand;
 pub use laws::answers_are_exact;
 pub use office::Office;
 pub use standing::Standing;

@@ -1,16 +1,21 @@
-ghost use Rattle.std.specs.Prelude.{◌≡◌, ◌≤◌, ◌<◌, ◌+◌, ◌-◌, ◌↔◌, ◌⊎◌, [], true, Some, IfErr, IfNone, IfOk, IfSome, OnErr, OnOk, OnSome, IsOk, IsSome, IsTrue, slice_get};
+ghost use Rattle.std.specs.Prelude.{◌≡◌, ◌≤◌, ◌<◌, ◌+◌, ◌-◌, ◌↔◌, ◌⊎◌, [], false, true, Some, IfErr, IfNone, IfOk, IfSome, OnErr, OnOk, OnSome, IsOk, IsSome, IsTrue, slice_get};
 ghost use Rattle.crossbeam_queue.specs.Passes.{view};
+ghost use Rattle.crossbeam_utils.specs.Seq.{cell_view};
 ghost use Rattle.job_queue.specs.Rule.{amount_of};
-ghost use Rattle.batch_core.specs.Events.{MayAccept, MayPrint};
+ghost use Rattle.batch_core.specs.Events.{MayAccept, MayPrint, MayRefuse};
+ghost use Rattle.operator_board.specs.Tallies as counting;
 ghost use Rattle.office.specs.Answers.{Answers, behind};
 ghost use Rattle.office.specs.Arrivals.{Fits, IsBelow, IsMisfit};
 ghost use Rattle.office.specs.OfficeView.{IsAllOver, new_office, next_ticket, with_accepted, with_closed, with_ended, with_full, with_register, with_stopped};
-ghost use Rattle.office.specs.Register.{arrived, printed};
+ghost use Rattle.office.specs.Register.{arrived, printed, refused};
 ghost use Rattle.office.specs.Standings.{IfResult, IsRunning, standing_of, standing_told};
 ghost use Rattle.office.specs.StandsFor.{StandsFor};
 ghost use Rattle.office.specs.Tickets.{slip};
 
 use crate::answers::{Admitted, ArriveError, Stranger};
+use crate::board::{post_newest, read};
+use crate::brand::OfficeBrand;
+use crate::posting::Posting;
 use crate::prospect::Prospect;
 use crate::register::Register;
 use crate::standing::Standing;
@@ -18,27 +23,31 @@ use account_book::Book;
 use algolw_meaning::{Brought, Ended};
 use batch_core::Event;
 use deck_reader::Job;
-use job_queue::{JobQueue, PutPass, QueueBrand, SettleBook, TakePass, Ticket};
+use job_queue::{JobQueue, PutPass, SettleBook, TakePass, Ticket};
+use operator_board::{Board, BoardWriter, Tallies};
 use std::alloc::{AllocError, Global};
 use std::marker::Model;
 use std::sync::{Arc, Wait};
 
 /// The office of a batch. Jobs arrive in it; it accepts or refuses them one by one, in their order, and puts the tickets
 /// of those that it accepts into the queue; it takes the results of those that were run, and hands out what the sections
-/// are made of, in order. At each moment it stands for the state of the batch that its journal replays.
+/// are made of, in order. At each moment it stands for the state of the batch that its journal replays. An office with a
+/// board posts each event of its journal there, so that others can read how far it is without its lock.
 #[derive(Drop)]
-pub struct Office<B: QueueBrand> {
+pub struct Office<B: OfficeBrand> {
     register: Register,
     put: PutPass<B>,
     settled: SettleBook<B>,
+    posting: Option<Posting>,
     closed: bool,
     stopped: bool,
 }
 
-impl<B: QueueBrand> Model for Office<B> {
+impl<B: OfficeBrand> Model for Office<B> {
     ghost use Rattle.crossbeam_queue.specs.Passes as passes;
     ghost use Rattle.office.specs.Kept.{Kept};
     ghost use Rattle.office.specs.OfficeView.{OfficeView};
+    ghost use Rattle.office.specs.Shown.{Shows};
     ghost use Rattle.office.specs.Tickets.{slips};
 
     ghost Value = { OfficeView };
@@ -59,11 +68,11 @@ impl<B: QueueBrand> Model for Office<B> {
       settled = o.settled.book.total;
       closed = o.closed;
       stopped = o.stopped;
-    }) (passes.view o.put.pass).put };
+    }) (passes.view o.put.pass).put × Shows B.boarded o.register o.posting };
 }
 
-impl<B: QueueBrand> Office<B> {
-    /// The office of a batch before any event, where the balances of a book are what its accounts have.
+impl<B: OfficeBrand> Office<B> {
+    /// The office of a batch before any event, without a board, where the balances of a book are what its accounts have.
     pub fn new(
         alloc: Global,
         book: Book,
@@ -72,6 +81,7 @@ impl<B: QueueBrand> Office<B> {
     ) -> Result<Office<B>, AllocError>
         requires nothing_put { (view put.pass).put ≡ [] }
         requires nothing_settled { settled.book.total ≡ 0 }
+        requires board { B.boarded ≡ false }
         ensures new { IfOk result (λ office. office ≡ new_office book.balances (view put.pass).full) }
     {
         let register = Register::new(alloc, book.balances())?;
@@ -79,6 +89,35 @@ impl<B: QueueBrand> Office<B> {
             register,
             put,
             settled,
+            posting: None,
+            closed: false,
+            stopped: false,
+        })
+    }
+
+    /// The office of a batch before any event, with a board on which nothing is posted, by the writer of that board.
+    pub fn with_board(
+        alloc: Global,
+        book: Book,
+        put: PutPass<B>,
+        settled: SettleBook<B>,
+        board: Arc<Board>,
+        writer: BoardWriter,
+    ) -> Result<Office<B>, AllocError>
+        requires nothing_put { (view put.pass).put ≡ [] }
+        requires nothing_settled { settled.book.total ≡ 0 }
+        requires board { B.boarded ≡ true }
+        requires writer { writer.pass.table_id ≡ board.value.cell.table.shared.table_id }
+        requires nothing_posted { (cell_view writer.pass).events ≡ [] }
+        requires openings { (cell_view writer.pass).openings ≡ book.balances }
+        ensures new { IfOk result (λ office. office ≡ new_office book.balances (view put.pass).full) }
+    {
+        let register = Register::new(alloc, book.balances())?;
+        Ok(Office {
+            register,
+            put,
+            settled,
+            posting: Some(Posting { board, writer }),
             closed: false,
             stopped: false,
         })
@@ -92,9 +131,26 @@ impl<B: QueueBrand> Office<B> {
         self.register.journal()
     }
 
+    /// How many events of each kind there were. No memory is taken.
+    pub fn tallies(&self) -> Tallies
+        ensures { result ≡ counting.tallies self.now.register.journal }
+    {
+        Tallies::of(self.register.journal())
+    }
+
+    /// The same, read off the office's board; none exactly where it has none. No memory is taken.
+    pub fn board_read<R: Wait>(&mut self, rt: &R) -> Option<Tallies>
+        ensures some { IsSome result ↔ IsTrue B.boarded }
+        ensures tallies { IfSome result (λ t. t ≡ counting.tallies self.old.register.journal) }
+        ensures adds_up { IfSome result (λ t. counting.AddsUp t) }
+        ensures same { self.new ≡ self.old }
+    {
+        read(rt, &mut self.posting)
+    }
+
     /// A job arrives. It must be the next one by its number, and on an account that is there if it is on one. Where memory
     /// is wanting nothing changes; where there was enough, there is for all that may come of the job.
-    pub fn arrive(&mut self, job: Arc<Job>) -> Result<(), ArriveError>
+    pub fn arrive<R: Wait>(&mut self, rt: &R, job: Arc<Job>) -> Result<(), ArriveError>
         ensures arrived { OnOk result (self.new
             ≡ with_register self.old (arrived self.old.register job.value)) }
         ensures fits { OnOk result (Fits self.old.register job.value) }
@@ -108,7 +164,10 @@ impl<B: QueueBrand> Office<B> {
             return Err(ArriveError::Misfit { next, accounts });
         }
         match self.register.arrive(job) {
-            Ok(()) => Ok(()),
+            Ok(()) => {
+                post_newest(rt, &mut self.posting, &self.register);
+                Ok(())
+            }
             Err(_) => Err(ArriveError::NoMemory),
         }
     }
@@ -172,11 +231,11 @@ impl<B: QueueBrand> Office<B> {
         match self.register.next() {
             None => Admitted::NoneArrived,
             Some((job, Prospect::Flawed(flaw))) => {
-                self.register.refuse();
+                self.refuse(rt);
                 Admitted::Flawed { job, flaw }
             }
             Some((job, Prospect::Uncovered { reserve, high })) => {
-                self.register.refuse();
+                self.refuse(rt);
                 Admitted::Refused { job, reserve, high }
             }
             Some((job, Prospect::Open { low, high })) => Admitted::Waits { job, low, high },
@@ -201,16 +260,27 @@ impl<B: QueueBrand> Office<B> {
         match queue.put(rt, &mut self.put, ticket) {
             Ok(()) => {
                 self.register.accept(reserve);
+                post_newest(rt, &mut self.posting, &self.register);
                 true
             }
             Err(_) => false,
         }
     }
 
+    /// Refuses the next undecided job.
+    fn refuse<R: Wait>(&mut self, rt: &R)
+        requires { MayRefuse self.old.register.core }
+        ensures { self.new ≡ with_register self.old (refused self.old.register) }
+    {
+        self.register.refuse();
+        post_newest(rt, &mut self.posting, &self.register);
+    }
+
     /// Takes the result of a running job, and settles the amount of its ticket. A result that isn't that of the running job
     /// of the ticket's number, with its amount as reserve, is handed back with the ticket, and nothing changes.
-    pub fn settle(
+    pub fn settle<R: Wait>(
         &mut self,
+        rt: &R,
         pass: &mut TakePass<B>,
         ticket: Ticket,
         ended: Ended,
@@ -239,19 +309,22 @@ impl<B: QueueBrand> Office<B> {
         }
         self.settled.book(pass, amount);
         self.register.end(number, amount, ended);
+        post_newest(rt, &mut self.posting, &self.register);
         Ok(())
     }
 
     /// What the section of the next unprinted job is made of, once that is refused or has ended; it is then printed. It is
     /// a result exactly where the job has ended, and the result is that of this job.
-    pub fn next_section(&mut self) -> Option<Brought>
+    pub fn next_section<R: Wait>(&mut self, rt: &R) -> Option<Brought>
         ensures may { IsSome result ↔ MayPrint self.old.register.core }
         ensures standing { IfSome result (λ brought. standing_of self.old.register (self.old.register.core.printed + 1) ≡ standing_told brought) }
         ensures result { IfSome result (λ brought. IfResult brought (λ ended. slice_get self.old.register.jobs self.old.register.core.printed ≡ Some ended.job)) }
         ensures printed { OnSome result (self.new ≡ with_register self.old (printed self.old.register)) }
         ensures unchanged { IfNone result (self.new ≡ self.old) }
     {
-        self.register.print()
+        let brought = self.register.print()?;
+        post_newest(rt, &mut self.posting, &self.register);
+        Some(brought)
     }
 
     /// Ends the office: the put pass is closed into a pass that has all parts. What was put is what is reserved and what
@@ -271,6 +344,7 @@ impl<B: QueueBrand> Office<B> {
             register,
             put,
             mut settled,
+            posting: _,
             closed: _,
             stopped: _,
         } = self;

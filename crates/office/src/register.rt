@@ -1,7 +1,9 @@
+ghost use Rattle.std.specs.Option.{option_copied};
 ghost use Rattle.std.specs.Prelude.{◌≡◌, ◌-◌, ◌≤◌, ◌<◌, ◌+◌, ◌*◌, ◌^◌, ◌↔◌, Some, None, IfNone, IfOk, IfSome, OnErr, OnOk, OnSome, IsSome, IsTrue, length, slice_get, slice_index_or, slice_set, vec_capacity, vec_len};
 ghost use Rattle.deck_reader.specs.JobView.{JobView};
 ghost use Rattle.algolw_meaning.specs.Running.{job_result};
-ghost use Rattle.batch_core.specs.Events.{IsThere, MayAccept, MayPrint, MayRefuse};
+ghost use Rattle.batch_core.specs.Core.{start};
+ghost use Rattle.batch_core.specs.Events.{IsThere, Legal, MayAccept, MayPrint, MayRefuse};
 ghost use Rattle.batch_core.specs.Kept.{AllOver};
 ghost use Rattle.batch_core.specs.Claims.{claim_of_job};
 ghost use Rattle.office.specs.Prospects.{IsNext, Sees};
@@ -150,6 +152,14 @@ impl Register {
         ensures { result.now ≡ self.now.journal }
     {
         self.journal.as_slice()
+    }
+
+    /// The newest event, where there is one. The events are legal from the openings on.
+    pub(crate) fn newest(&self) -> Option<&Event>
+        ensures newest { option_copied result ≡ slice_get self.now.journal (length self.now.journal - 1) }
+        ensures legal { Legal (start self.now.core.openings) self.now.journal }
+    {
+        self.journal.last()
     }
 
     /// What is reserved for the outstanding jobs.

@@ -7,6 +7,8 @@ mod accounts;
 #[cfg(test)]
 mod batches;
 #[cfg(test)]
+mod boards;
+#[cfg(test)]
 mod cards;
 #[cfg(test)]
 mod decisions;

@@ -1,10 +1,13 @@
-ghost use Rattle.std.specs.Prelude.{◌≡◌, ◌≤◌, IfOk, length};
+ghost use Rattle.std.specs.Prelude.{◌≡◌, ◌≤◌, IfOk, [], false, true, length};
+ghost use Rattle.crossbeam_queue.specs.Passes.{view};
+ghost use Rattle.crossbeam_utils.specs.Seq.{cell_view};
 
 use crate::rows::see;
 use account_book::Book;
 use deck_reader::{Batch, FeedError, Flaw, Job, Reader};
-use job_queue::{FreshQueue, QueueBrand};
-use office::{Admitted, ArriveError, Office, Standing};
+use job_queue::{FreshQueue, PutPass, SettleBook};
+use office::{Admitted, ArriveError, Office, OfficeBrand, Standing};
+use operator_board::{Board, Tallies};
 use std::alloc::{AllocError, Global};
 use std::marker::Brand;
 use std::sync::{Arc, Mutex, Wait};
@@ -30,6 +33,9 @@ struct Seen {
     again: Result<(), ArriveError>,
     over: bool,
     events: usize,
+    /// How many events of each kind the office tells, and what stands on its board.
+    tallies: Tallies,
+    board: Option<Tallies>,
 }
 
 fn read(alloc: Global, input: &[u8]) -> Result<Batch, FeedError>
@@ -49,31 +55,54 @@ fn jobs_of(alloc: Global, batch: Batch) -> Result<Vec<Arc<Job>>, AllocError> {
 }
 
 /// Lets all jobs arrive, and gives what the last one was told.
-fn let_in<B: QueueBrand>(
+fn let_in<B: OfficeBrand, R: Wait>(
+    rt: &R,
     office: &mut Office<B>,
     jobs: &[Arc<Job>],
 ) -> Result<Result<(), ArriveError>, AllocError> {
     let mut told = Ok(());
     for job in jobs {
-        told = office.arrive(job.clone()?);
+        told = office.arrive(rt, job.clone()?);
     }
     Ok(told)
 }
 
-fn day<B: QueueBrand + Send + Sync, R: Threads + Wait + Sync>(
+/// The office of a day, with a board or without one.
+fn opened<B: OfficeBrand>(
+    alloc: Global,
+    book: Book,
+    put: PutPass<B>,
+    settled: SettleBook<B>,
+    boarded: bool,
+) -> Result<Office<B>, AllocError>
+    requires board { B.boarded ≡ boarded }
+    requires nothing_put { (view put.pass).put ≡ [] }
+    requires nothing_settled { settled.book.total ≡ 0 }
+{
+    if !boarded {
+        return Office::new(alloc, book, put, settled);
+    }
+    let (board, writer, _reader) = Board::new(alloc, book.balances())?;
+    let board = Arc::new(alloc, board)?;
+    Office::with_board(alloc, book, put, settled, board, writer)
+}
+
+fn day<B: OfficeBrand + Send + Sync, R: Threads + Wait + Sync>(
     rt: &R,
     alloc: Global,
     fresh: FreshQueue,
     book: Book,
+    boarded: bool,
     jobs: &[Arc<Job>],
 ) -> Result<Seen, AllocError>
     requires name { fresh.blank.name ≡ B.name }
     requires parts { fresh.blank.parts ≡ B.parts }
     requires table { fresh.ring.table.shared.table_id ≡ B.table }
+    requires board { B.boarded ≡ boarded }
 {
     let (queue, put, mut pass, settled) = fresh.open::<B>();
-    let mut office = Office::new(alloc, book, put, settled)?;
-    let _told = let_in(&mut office, jobs)?;
+    let mut office = opened(alloc, book, put, settled, boarded)?;
+    let _told = let_in(rt, &mut office, jobs)?;
     office.close_arrivals();
     let admitted = [office.admit(rt, &queue), office.admit(rt, &queue)];
     let ticket = queue.take(rt, &mut pass).map_or(0, |t| t.number());
@@ -86,8 +115,9 @@ fn day<B: QueueBrand + Send + Sync, R: Threads + Wait + Sync>(
         office.standing(2),
         office.standing(3),
     ];
-    let again = let_in(&mut office, jobs)?;
+    let again = let_in(rt, &mut office, jobs)?;
     let events = office.journal().len();
+    let (tallies, board) = (office.tallies(), office.board_read(rt));
     let shared = Mutex::new(office);
     let (reserved, over) = thread::join(
         rt,
@@ -104,6 +134,8 @@ fn day<B: QueueBrand + Send + Sync, R: Threads + Wait + Sync>(
         again,
         over,
         events,
+        tallies,
+        board,
     })
 }
 
@@ -132,6 +164,17 @@ const TWO_REFUSED: &[u8] = b"%ACCOUNT BOB 301
 BEGIN END.
 ";
 
+/// Two jobs have arrived, and so many were accepted and refused.
+fn counts(accepted: u64, refused: u64) -> Tallies {
+    Tallies {
+        arrived: 2,
+        accepted,
+        refused,
+        ended: 0,
+        printed: 0,
+    }
+}
+
 /// Two jobs, of which the second waits for the end of the first; two of which the second finds no room in the queue; and
 /// two that are refused.
 fn cases() -> [(&'static [u8], Seen); 3] {
@@ -159,6 +202,8 @@ fn cases() -> [(&'static [u8], Seen); 3] {
         again,
         over: false,
         events: 3,
+        tallies: counts(1, 0),
+        board: None,
     };
     let full = Seen {
         admitted: [Admitted::Accepted { job: 1 }, Admitted::Full { job: 2 }],
@@ -175,6 +220,8 @@ fn cases() -> [(&'static [u8], Seen); 3] {
         again,
         over: false,
         events: 4,
+        tallies: counts(2, 0),
+        board: None,
     };
     let flawed = Admitted::Flawed {
         job: 1,
@@ -200,6 +247,8 @@ fn cases() -> [(&'static [u8], Seen); 3] {
         again,
         over: true,
         events: 4,
+        tallies: counts(0, 2),
+        board: None,
     };
     [
         (TWO_THAT_WAIT, waiting),
@@ -208,16 +257,32 @@ fn cases() -> [(&'static [u8], Seen); 3] {
     ]
 }
 
+/// What is seen of the batch of these cards.
+fn day_of<R: Threads + Wait + Sync>(
+    rt: &R,
+    alloc: Global,
+    input: &[u8],
+    boarded: bool,
+) -> Result<Seen, Fail> {
+    let batch = read(alloc, input)?;
+    let book = Book::open(alloc, batch.accounts.as_slice())?;
+    let jobs = jobs_of(alloc, batch)?;
+    let fresh = FreshQueue::new(alloc, 1)?;
+    let seen = day::<Brand, R>(rt, alloc, fresh, book, boarded, jobs.as_slice())?;
+    Ok(seen)
+}
+
 #[test]
 fn jobs_are_decided_in_their_order(rt: HostRuntime) -> Result<(), Fail> {
-    let alloc = rt.alloc();
     for (input, expected) in cases() {
-        let batch = read(alloc, input)?;
-        let book = Book::open(alloc, batch.accounts.as_slice())?;
-        let jobs = jobs_of(alloc, batch)?;
-        let fresh = FreshQueue::new(alloc, 1)?;
-        let seen = day::<Brand, HostRuntime>(&rt, alloc, fresh, book, jobs.as_slice())?;
-        see(&rt, "a day of the office", seen == expected);
+        let plain = day_of(&rt, rt.alloc(), input, false)?;
+        see(&rt, "a day of the office", plain == expected);
+        let shown = Seen {
+            board: Some(expected.tallies),
+            ..expected
+        };
+        let boarded = day_of(&rt, rt.alloc(), input, true)?;
+        see(&rt, "a day with a board", boarded == shown);
     }
     Ok(())
 }

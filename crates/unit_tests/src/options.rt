@@ -22,7 +22,7 @@ fn read(alloc: Global, line: &str) -> Result<Order, WordsError> {
 }
 
 /// A line, and behind the bar the workers and the queue of its order, in front of which stand the seed and the jobs of one that
-/// makes a batch. An accounts file is asked for where the line says so.
+/// makes a batch. An accounts file and a board are asked for where the line says so.
 const ORDERS: &str = "\
 |4 8
 --workers 1|1 8
@@ -36,6 +36,10 @@ const ORDERS: &str = "\
 --accounts|4 8
 --accounts --workers 2|2 8
 --queue=3 --accounts --workers 2|2 3
+--board|4 8
+--board --queue 3|4 3
+--accounts --board|4 8
+--board --workers 2 --accounts|2 8
 --make 7 --jobs 1|7 1 4 8
 --jobs=2 --make 7|7 2 4 8
 --make=0 --jobs=2000|0 2000 4 8
@@ -44,13 +48,14 @@ const ORDERS: &str = "\
 --queue=2 --jobs 3 --workers=1 --make 0000000004|4 3 1 2
 ";
 
-/// The order of these numbers, and with an accounts file or without one.
-fn order_of(rt: &impl Abort, numbers: &str, accounts: bool) -> Order {
+/// The order of these numbers, with an accounts file or without one, and with a board or without.
+fn order_of(rt: &impl Abort, numbers: &str, accounts: bool, board: bool) -> Order {
     match words(numbers) {
         [workers, queue, "", ..] => Order::Run {
             workers: unsigned(rt, workers),
             queue: unsigned(rt, queue),
             accounts,
+            board,
         },
         [seed, jobs, workers, queue, ..] => Order::Make {
             seed: unsigned(rt, seed),
@@ -70,7 +75,8 @@ fn answers(alloc: Global, line: &str, wanted: Result<Order, WordsError>) -> bool
 fn orders(rt: HostRuntime) {
     for row in ORDERS.lines() {
         let (line, numbers) = row.split_once('|').unwrap_or((row, ""));
-        let wanted = Ok(order_of(&rt, numbers, line.contains("--accounts")));
+        let (accounts, board) = (line.contains("--accounts"), line.contains("--board"));
+        let wanted = Ok(order_of(&rt, numbers, accounts, board));
         see(&rt, row, answers(rt.alloc(), line, wanted));
     }
 }
@@ -115,6 +121,15 @@ const REFUSALS: &str = "\
 --accounts --make 7 --jobs 1|not together
 --make 7 --accounts --jobs 1|not together
 --accounts --accounts|twice
+--board --make 7 --jobs 1|not together
+--make 7 --jobs 1 --board|not together
+--board --board|twice
+--board --workers|no value
+--workers --board|no value
+--board=|no option
+--board=1|no option
+--board yes|no option
+--boards|no option
 --accounts yes|no option
 --accounts --workers|no value
 --workers --accounts|no value

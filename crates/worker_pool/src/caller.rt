@@ -2,8 +2,8 @@
 ghost use Rattle.std.specs.Prelude.{◌≡◌};
 ghost use Rattle.worker_pool.specs.declared.caller.Turn.TheVariants.{Done};
 
-use job_queue::{JobQueue, QueueBrand};
-use office::Office;
+use job_queue::JobQueue;
+use office::{Office, OfficeBrand};
 use std::sync::{Mutex, Wait};
 
 /// Whether a caller has more turns to take.
@@ -16,7 +16,7 @@ pub enum Turn {
 }
 
 /// A caller of the pool, which takes turns until it is done.
-pub trait Caller<B: QueueBrand> {
+pub trait Caller<B: OfficeBrand> {
     /// How turns may change it.
     ghost went: { Self → Self → Type 0 };
 
@@ -36,7 +36,7 @@ pub trait Caller<B: QueueBrand> {
 }
 
 /// Takes all turns.
-pub(crate) fn take_turns<B: QueueBrand, R: Wait, C: Caller<B> + Drop>(
+pub(crate) fn take_turns<B: OfficeBrand, R: Wait, C: Caller<B> + Drop>(
     rt: &R,
     office: &Mutex<Office<B>>,
     queue: &JobQueue<B>,

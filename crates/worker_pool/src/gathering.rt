@@ -6,6 +6,7 @@ ghost use Rattle.worker_pool.specs.Ends.{debts_of};
 
 use crate::staff::Pooled;
 use job_queue::{JobQueue, QueueBrand, TakePass};
+use office::OfficeBrand;
 use std::sync::Wait;
 
 /// What all accepted jobs that haven't ended had reserved, and where it is.
@@ -23,7 +24,7 @@ pub struct Gathered<B: QueueBrand> {
 
 /// Seals the office and takes what is left in the queue, until it is found empty. What was reserved is what the workers
 /// brought back and what was left.
-pub fn gather<B: QueueBrand, R: Wait>(rt: &R, pooled: Pooled<B>) -> Gathered<B>
+pub fn gather<B: OfficeBrand, R: Wait>(rt: &R, pooled: Pooled<B>) -> Gathered<B>
     requires { B.parts ≡ 16 }
     ensures adds_up { result.reserved ≡ result.returned + result.left }
     ensures reserved { result.reserved ≡ pooled.office.register.reserved }

@@ -9,9 +9,9 @@ use crate::working::work;
 use batch_io::Gate;
 use core::thread::{Anything, Stack};
 use crossbeam_utils::CachePadded;
-use job_queue::{JobQueue, QueueBrand, TakePass};
+use job_queue::{JobQueue, TakePass};
 use job_runner::Desk;
-use office::Office;
+use office::{Office, OfficeBrand};
 use std::alloc::Global;
 use std::sync::{Mutex, Wait};
 use std::thread;
@@ -34,7 +34,7 @@ pub fn run_pool<B, R, G, C>(
     caller: C,
 ) -> (Pooled<B>, C)
 where
-    B: QueueBrand + Send + Sync,
+    B: OfficeBrand + Send + Sync,
     R: Threads + Wait + Sync,
     G: Gate,
     C: Caller<B> + Drop,
@@ -71,7 +71,7 @@ where
 
 /// What the workers share.
 #[derive(Drop)]
-struct Hall<'e, B: QueueBrand, R, G> {
+struct Hall<'e, B: OfficeBrand, R, G> {
     rt: &'e R,
     alloc: Global,
     office: &'e Mutex<Office<B>>,
@@ -79,7 +79,7 @@ struct Hall<'e, B: QueueBrand, R, G> {
     gate: &'e G,
 }
 
-impl<'e, B: QueueBrand, R: Wait, G: Gate> Hall<'e, B, R, G> {
+impl<'e, B: OfficeBrand, R: Wait, G: Gate> Hall<'e, B, R, G> {
     /// Works until the office is over.
     fn work(&self, pass: &mut TakePass<B>, desk: &mut Desk) -> WorkEnd
         requires { pass.old.owed ≡ 0 }
@@ -106,7 +106,7 @@ fn staffed<B, R, G, C>(
     caller: C,
 ) -> Staff<B, C>
 where
-    B: QueueBrand + Send + Sync,
+    B: OfficeBrand + Send + Sync,
     R: Threads + Wait + Sync,
     G: Gate,
     C: Caller<B> + Drop,
@@ -136,7 +136,7 @@ where
 }
 
 /// A thread's work.
-fn worked<B: QueueBrand, R: Wait, G: Gate>(
+fn worked<B: OfficeBrand, R: Wait, G: Gate>(
     hall: &Hall<'_, B, R, G>,
     mut pass: TakePass<B>,
     desk: &mut CachePadded<Desk>,
@@ -149,7 +149,7 @@ fn worked<B: QueueBrand, R: Wait, G: Gate>(
 }
 
 /// The caller's turns, and its work when it is done with them.
-fn called<B: QueueBrand, R: Wait, G: Gate, C: Caller<B> + Drop>(
+fn called<B: OfficeBrand, R: Wait, G: Gate, C: Caller<B> + Drop>(
     hall: &Hall<'_, B, R, G>,
     mut pass: TakePass<B>,
     desk: &mut CachePadded<Desk>,
@@ -177,7 +177,7 @@ fn hire<'s, 'e, 'h, B, R, G, C>(
     caller: C,
 ) -> Staff<B, C>
 where
-    B: QueueBrand + Send + Sync,
+    B: OfficeBrand + Send + Sync,
     R: Threads + Wait + Sync,
     G: Gate,
     C: Caller<B> + Drop,

@@ -4,7 +4,7 @@ ghost use Rattle.worker_pool.specs.Ends.{debt_of, debts_of, AreOverFrom};
 
 use crate::end::WorkEnd;
 use job_queue::{JobQueue, QueueBrand, TakePass};
-use office::Office;
+use office::{Office, OfficeBrand};
 
 /// What a thread of the pool brings back: its pass, of one part, which owes the amount of the ticket that it brings.
 #[derive(Drop)]
@@ -26,7 +26,7 @@ pub(crate) struct Staff<B: QueueBrand, C> {
 
 /// What comes back from the pool. The pass has all parts, and owes the amounts of the tickets that were brought back.
 #[derive(Drop)]
-pub struct Pooled<B: QueueBrand> {
+pub struct Pooled<B: OfficeBrand> {
     /// The office.
     pub office: Office<B>,
     /// The queue.

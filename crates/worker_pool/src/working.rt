@@ -6,9 +6,9 @@ ghost use Rattle.worker_pool.specs.Jobs.{IsFlawless};
 use crate::end::WorkEnd;
 use batch_io::Gate;
 use deck_reader::Job;
-use job_queue::{JobQueue, QueueBrand, TakePass, Ticket};
+use job_queue::{JobQueue, TakePass, Ticket};
 use job_runner::{Desk, run_job};
-use office::{Admitted, Office, Standing};
+use office::{Admitted, Office, OfficeBrand, Standing};
 use std::alloc::{AllocError, Global};
 use std::sync::{Arc, Mutex, Wait};
 use std::thread;
@@ -28,7 +28,7 @@ const LONGEST_NAP: u64 = 10_000;
 /// Works until the office is over: takes a ticket, runs its job and settles it; where there is no ticket, lets the office
 /// decide the next job. Where a ticket can't be settled the office is stopped, and the ticket is brought back. The pass
 /// then owes its amount, and nothing where there is none.
-pub fn work<B: QueueBrand, R: Wait, G: Gate>(
+pub fn work<B: OfficeBrand, R: Wait, G: Gate>(
     rt: &R,
     alloc: Global,
     office: &Mutex<Office<B>>,
@@ -107,7 +107,11 @@ impl Idle {
 }
 
 /// Lets the office decide the next job. Whether it has decided one.
-fn decides<B: QueueBrand, R: Wait>(rt: &R, office: &Mutex<Office<B>>, queue: &JobQueue<B>) -> bool {
+fn decides<B: OfficeBrand, R: Wait>(
+    rt: &R,
+    office: &Mutex<Office<B>>,
+    queue: &JobQueue<B>,
+) -> bool {
     // The lock is given back before the answer is looked at.
     let admitted = office.lock(rt).admit(rt, queue);
     match admitted {
@@ -117,7 +121,7 @@ fn decides<B: QueueBrand, R: Wait>(rt: &R, office: &Mutex<Office<B>>, queue: &Jo
 }
 
 /// Runs the job of a ticket and settles it. There is an end where that can't be.
-fn serve<B: QueueBrand, R: Wait, G: Gate>(
+fn serve<B: OfficeBrand, R: Wait, G: Gate>(
     rt: &R,
     alloc: Global,
     office: &Mutex<Office<B>>,
@@ -141,7 +145,7 @@ fn serve<B: QueueBrand, R: Wait, G: Gate>(
     let Ok(ended) = ran else {
         return Some(WorkEnd::NoMemory(ticket));
     };
-    let settled = office.lock(rt).settle(pass, ticket, ended);
+    let settled = office.lock(rt).settle(rt, pass, ticket, ended);
     match settled {
         Ok(()) => None,
         Err(stranger) => Some(WorkEnd::Unkept {
@@ -163,7 +167,7 @@ enum Kept {
 }
 
 /// Asks the office, under its lock.
-fn kept_job<B: QueueBrand, R: Wait>(rt: &R, office: &Mutex<Office<B>>, number: u32) -> Kept
+fn kept_job<B: OfficeBrand, R: Wait>(rt: &R, office: &Mutex<Office<B>>, number: u32) -> Kept
     ensures { IsFlawless result }
 {
     let office = office.lock(rt);

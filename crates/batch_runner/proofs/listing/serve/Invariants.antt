@@ -5,3 +5,7 @@ ghosts-run_jobs-B-QueueBrand g a = record { table = a.fresh.ring.table.shared.ta
 
 abbrev pub ghosts-run_jobs-B-Ledger : goal.ghosts-run_jobs-B-Ledger
 ghosts-run_jobs-B-Ledger g a = record { name = a.fresh.blank.name; parts = a.fresh.blank.parts }
+
+-- the office has a board where there is to be one
+abbrev pub ghosts-run_jobs-B-OfficeBrand : goal.ghosts-run_jobs-B-OfficeBrand
+ghosts-run_jobs-B-OfficeBrand g a = record { boarded = a.board }

@@ -22,3 +22,6 @@ pub returns-clause-some : goal.returns-clause-some
 returns-clause-some g c = λ given start h. at_some _ _ (λ halt halted.
     stopped_so given start (progress c.finish.result.docket _) halt halted
     ((goes_further _ _ _ c.run_pool-pooled.ensures.went.2 c.finish.ensures.goes_on).stands given start (begun_so given start _ c.args.clerk.docket c.requires.none c.requires.free h)))
+
+pub returns-clause-line : goal.returns-clause-line
+returns-clause-line g c = λ none. c.finish.ensures.line none ∙ c.requires.board

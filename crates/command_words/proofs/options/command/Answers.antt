@@ -18,4 +18,5 @@ returns c =
     let second = c.in_ok-arg-2.ensures.shape c.option-2.ensures.global ∙ ap₂ with_rule first c.option-2.ensures.rule in
     let third = c.in_ok-arg-3.ensures.shape c.option-3.ensures.global ∙ ap₂ with_rule second c.option-3.ensures.rule in
     let fourth = c.in_ok-arg-4.ensures.shape c.option-4.ensures.global ∙ ap₂ with_rule third c.option-4.ensures.rule in
-    IfOk-weaker c.arg-5.result _ _ (λ m h. h.shape c.flag.ensures.global ∙ ap₂ with_rule fourth c.flag.ensures.rule) c.arg-5.ensures
+    let fifth = c.in_ok-arg-5.ensures.shape c.flag.ensures.global ∙ ap₂ with_rule fourth c.flag.ensures.rule in
+    IfOk-weaker c.arg-6.result _ _ (λ m h. h.shape c.flag-2.ensures.global ∙ ap₂ with_rule fifth c.flag-2.ensures.rule) c.arg-6.ensures
