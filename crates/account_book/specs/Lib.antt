@@ -2,3 +2,4 @@ pub mod Charges
 pub mod BookView
 pub mod Places
 pub mod Laws
+pub mod OwnJobs

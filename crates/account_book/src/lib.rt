@@ -3,8 +3,10 @@
 
 mod book;
 mod charges;
+mod decision;
 mod laws;
 
 pub use book::Book;
 pub use charges::{Counts, charge_of, reserve_of};
+pub use decision::Decision;
 pub use laws::{charge_within, table_by_places};

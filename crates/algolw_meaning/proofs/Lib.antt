@@ -1,3 +1,4 @@
 pub mod Within
 pub mod Found
 pub mod Results
+pub mod Charging

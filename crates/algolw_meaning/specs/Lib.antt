@@ -4,6 +4,7 @@ pub mod TypingDecks
 pub mod ProgramDecks
 pub mod Meaning
 pub mod Running
+pub mod Charging
 pub mod EndedView
 pub mod Laws
 pub mod RunRows

@@ -8,7 +8,8 @@ use Rattle.account_book.specs.BookView.{BookView, openings_of}
 use Rattle.account_book.specs.Places.{place_balance}
 use Rattle.account_book.proofs.Tables.{table_holds}
 use Rattle.batch_listing.specs.Behind.{IsBehind, with_balances}
-use Rattle.batch_listing.specs.Listing.{charged, closed_accounts}
+use Rattle.algolw_meaning.specs.Charging.{charged}
+use Rattle.batch_listing.specs.Listing.{closed_accounts}
 
 -- the accounts, the first of them with this number, with the balances that their numbers have
 abbrev pub with_balance : (ℕ → ℕ) → ℕ → List Account → List Account

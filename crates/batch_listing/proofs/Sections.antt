@@ -8,7 +8,8 @@ use Rattle.deck_reader.specs.JobView.{JobView}
 use Rattle.account_book.specs.BookView.{BookView, openings_of}
 use Rattle.account_book.specs.Places.{balances_behind, place_balance, settled}
 use Rattle.account_book.proofs.Tables.{table_holds}
-use Rattle.batch_listing.specs.Listing.{charged, closing_lines, section, sections}
+use Rattle.algolw_meaning.specs.Charging.{charged}
+use Rattle.batch_listing.specs.Listing.{closing_lines, section, sections}
 use Rattle.batch_listing.specs.Texts.{closing_line, balance_lines}
 use Rattle.batch_listing.specs.Behind.{IsBehind}
 use Rattle.batch_listing.specs.Laws.{sections_by_table}

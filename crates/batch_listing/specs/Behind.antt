@@ -6,7 +6,7 @@ use Rattle.account_book.specs.BookView.{BookView, openings_of}
 use Rattle.account_book.specs.Places.{balances_behind}
 use Rattle.algolw_meaning.specs.declared.brought.Brought.{Brought}
 use Rattle.algolw_meaning.specs.declared.brought.Brought.TheVariants as brought
-use Rattle.batch_listing.specs.Listing.{charged}
+use Rattle.algolw_meaning.specs.Charging.{charged}
 
 -- the balances of a book are those behind these jobs
 abbrev pub IsBehind : BookView → List JobView → Type 0

@@ -2,7 +2,8 @@
 use Rattle.std.specs.Prelude.{ℕ, ◌≡◌, List, [], ◌∷◌, ◌++◌, slice_index}
 use Rattle.deck_reader.specs.JobView.{JobView}
 use Rattle.account_book.specs.Places.{settled}
-use Rattle.batch_listing.specs.Listing.{charged, section_with, sections}
+use Rattle.algolw_meaning.specs.Charging.{charged}
+use Rattle.batch_listing.specs.Listing.{section_with, sections}
 
 -- the sections of these jobs, the first of them where these are the balances
 abbrev pub sections_by_table : List ℕ → List JobView → List ℕ

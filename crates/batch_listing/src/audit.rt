@@ -4,16 +4,17 @@ ghost use Rattle.account_book.specs.BookView.{openings_of};
 ghost use Rattle.account_book.specs.Charges.{charge};
 ghost use Rattle.account_book.specs.Places.{claim_of, is_accepted, lowered, settled};
 ghost use Rattle.algolw_meaning.specs.Running.{job_result};
+ghost use Rattle.algolw_meaning.specs.Charging.{charged, decision, decision_at};
 ghost use Rattle.batch_listing.specs.Texts.{closing};
-ghost use Rattle.batch_listing.specs.Listing.{accepted, body, charged, closed_accounts, closing_lines, decision, section};
+ghost use Rattle.batch_listing.specs.Listing.{accepted, body, closed_accounts, closing_lines, section, verdict};
 ghost use Rattle.batch_listing.specs.Behind.{Fits, IsBehind};
 ghost use Rattle.batch_summary.specs.Tally.{tally_with};
 ghost use Rattle.batch_listing.specs.Tallies.{ended_so, entry_by, sections_tally};
 
 use crate::closing::with_balances;
-use crate::decision::{Decision, decide};
 use crate::lines::{self, heading};
-use account_book::{Book, charge_of};
+use crate::verdict::{Verdict, decide};
+use account_book::{Book, Decision, charge_of};
 use batch_summary::{Entry, Outcome, Tally};
 use deck_reader::{Account, Job};
 use job_runner::{Brought, Desk, Ended, Ending, run_job};
@@ -27,6 +28,8 @@ pub struct Audit {
     book: Book,
     tally: Tally,
     reruns: u32,
+    /// What became of the job of the last section.
+    last: Option<Decision>,
 }
 
 /// The tally of the heading alone.
@@ -48,12 +51,14 @@ impl Audit {
     /// The audit before the first section. Each account of the book must still have its opening.
     pub fn new(book: Book) -> Result<Audit, AllocError>
         requires { book.balances ≡ openings_of book.accounts }
-        ensures { IfOk result (λ audit. audit ≡ record { book = book; tally = sections_tally [] []; reruns = 0 }) }
+        ensures { IfOk result (λ audit. audit
+            ≡ record { book = book; tally = sections_tally [] []; reruns = 0; last = None }) }
     {
         Ok(Audit {
             book,
             tally: heading_tally(),
             reruns: 0,
+            last: None,
         })
     }
 
@@ -89,11 +94,31 @@ impl Audit {
             → accepted (openings_of self.old.book.accounts) earlier job.now.value ≡ true
             → (Fits brought job.now.value → ⊥)
             → OnOk result (self.new.reruns ≡ min (self.old.reruns + 1) (2 ^ 32 - 1)) }
+
+        // What became of the job is known behind it.
+        ensures last { (earlier : List JobView) → IsBehind self.old.book earlier
+            → OnOk result (self.new.last
+            ≡ Some (decision_at (openings_of self.old.book.accounts) earlier job.now.value)) }
     {
         let mut out = Vec::new(alloc);
         lines::push_title(&mut out, job)?;
-        self.push_body(alloc, &mut out, job, brought, desk)?;
+        let decision = self.push_body(alloc, &mut out, job, brought, desk)?;
+        self.last = Some(decision);
         Ok(out)
+    }
+
+    /// What became of the job of the last section; none before the first one.
+    pub fn decision(&self) -> Option<Decision>
+        ensures { result ≡ self.now.last }
+    {
+        self.last
+    }
+
+    /// The accounts of the batch, with their openings, and their balances behind the sections that were made.
+    pub fn book(&self) -> &Book
+        ensures { result.now ≡ self.now.book }
+    {
+        &self.book
     }
 
     /// For how many sections the audit ran the job itself. The count stops at the end of its type.
@@ -130,7 +155,7 @@ impl Audit {
         with_balances(alloc, self.book.accounts(), self.book.balances())
     }
 
-    /// Adds the body of a section, and settles what its job is charged.
+    /// Adds the body of a section, and settles what its job is charged. Gives what became of the job.
     fn push_body(
         &mut self,
         alloc: Global,
@@ -138,13 +163,15 @@ impl Audit {
         job: &Arc<Job>,
         brought: Option<Brought>,
         desk: &mut Option<Desk>,
-    ) -> Result<(), AllocError>
+    ) -> Result<Decision, AllocError>
         ensures text { OnOk result (out.new.items ≡ out.old.items
-            ++ body (decision (slice_index self.old.book.balances) job.now.value) job.now.value) }
+            ++ body (verdict (slice_index self.old.book.balances) job.now.value) job.now.value) }
         ensures book { OnOk result (self.new.book.balances ≡ settled self.old.book.balances (charged job.now.value)) }
         ensures accounts { self.new.book.accounts ≡ self.old.book.accounts }
         ensures tally { OnOk result (self.new.tally ≡ tally_with self.old.tally
-            (entry_by (decision (slice_index self.old.book.balances) job.now.value) job.now.value (length out.new.items))) }
+            (entry_by (verdict (slice_index self.old.book.balances) job.now.value) job.now.value (length out.new.items))) }
+        ensures decided { IfOk result (λ became. became
+            ≡ decision (slice_index self.old.book.balances) job.now.value) }
         ensures kept { OnErr result (self.new ≡ self.old) }
         ensures spared { ((is_accepted (slice_index self.old.book.balances) (claim_of job.now.value) ≡ false)
             ⊎ Fits brought job.now.value)
@@ -154,33 +181,35 @@ impl Audit {
             → OnOk result (self.new.reruns ≡ min (self.old.reruns + 1) (2 ^ 32 - 1)) }
     {
         match decide(&self.book, job) {
-            Decision::Flawed(flaw) => {
+            Verdict::Flawed(flaw) => {
                 lines::push_flawed(out, flaw)?;
-                self.count(Outcome::Refused, 0, out.as_slice())
+                self.count(Outcome::Refused, 0, out.as_slice())?;
+                Ok(Decision::Flawed(flaw))
             }
-            Decision::Refused { reserve, balance } => {
+            Verdict::Refused { reserve, balance } => {
                 lines::push_refused(out, reserve, balance)?;
-                self.count(Outcome::Refused, 0, out.as_slice())
+                self.count(Outcome::Refused, 0, out.as_slice())?;
+                Ok(Decision::Refused { reserve, balance })
             }
-            Decision::Accepted(account) => match fitting(brought, job) {
+            Verdict::Accepted(account) => match fitting(brought, job) {
                 Some(ended) => self.push_ended(out, account, &ended),
                 None => {
                     let ended = run_here(alloc, desk, job)?;
-                    self.push_ended(out, account, &ended)?;
+                    let decision = self.push_ended(out, account, &ended)?;
                     self.reruns = self.reruns.saturating_add(1);
-                    Ok(())
+                    Ok(decision)
                 }
             },
         }
     }
 
-    /// Adds the body of a job that has ended, and settles its charge.
+    /// Adds the body of a job that has ended, and settles its charge. Gives what became of the job.
     fn push_ended(
         &mut self,
         out: &mut Vec<u8>,
         account: u32,
         ended: &Ended,
-    ) -> Result<(), AllocError>
+    ) -> Result<Decision, AllocError>
         requires { charge (job_result ended.now.job).counts ≤ slice_index self.old.book.balances account }
         ensures text { OnOk result (out.new.items ≡ out.old.items ++ (job_result ended.now.job).body) }
         ensures book { OnOk result (self.new.book.balances
@@ -192,13 +221,15 @@ impl Audit {
           bytes = length out.new.items;
         })) }
         ensures reruns { self.new.reruns ≡ self.old.reruns }
+        ensures decided { IfOk result (λ became. became ≡ Decision.Charged (job_result ended.now.job).counts) }
         ensures kept { OnErr result (self.new ≡ self.old) }
     {
         out.extend_from_slice(ended.body())?;
-        let charge = charge_of(ended.counts());
+        let counts = ended.counts();
+        let charge = charge_of(counts);
         self.count(ended_so(ended.ending()), charge, out.as_slice())?;
         self.book.settle(account, charge);
-        Ok(())
+        Ok(Decision::Charged(counts))
     }
 
     /// Counts a section. A number that would pass its type is want of memory: no listing has so many bytes.
@@ -246,7 +277,7 @@ fn ended_so(ending: Ending) -> Outcome
 }
 
 /// The result that was brought, where it is for an equal job.
-#[tactic(auto, using(deck_reader::specs::JobEqualityLaws::equal_jobs_are_same))]
+#[tactic(auto, using(deck_reader::specs::JobEquality::equal_jobs_are_same))]
 fn fitting(brought: Option<Brought>, job: &Job) -> Option<Ended>
     ensures equal { IfSome result (λ ended. ended.job ≡ job.now) }
     ensures fits { IsSome result ↔ Fits brought job.now }

@@ -3,9 +3,9 @@
 
 mod audit;
 mod closing;
-mod decision;
 mod laws;
 mod lines;
+mod verdict;
 mod writing;
 
 pub use audit::Audit;

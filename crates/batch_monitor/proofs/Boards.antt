@@ -1,10 +1,9 @@
 -- A listing with the line of a board behind it.
 use Rattle.std.proofs.Common.{◌≡◌, ℕ, Bool, true, false, [], List, ◌++◌, Option, Some, None, is_some, take, drop, append_assoc, append-nil, refl, sym, ap, subst, ◌∙◌, arith}
-use Rattle.std.specs.Io.KnownBytes.{Appends, Consumes}
+use Rattle.std.specs.Io.KnownBytes.{Appends}
 use Rattle.std.proofs.KnownBytes.{Appends-trans}
 use Rattle.std.proofs.lemmas.List.{take-append-drop}
 use Rattle.deck_reader.specs.declared.batch.Account.{Account}
-use Rattle.deck_reader.specs.Batch.{batch_with}
 use Rattle.operator_board.specs.declared.tallies.Tallies.{Tallies}
 use Rattle.batch_listing.specs.declared.audit.Audit.{Audit}
 use Rattle.batch_listing.specs.Listing.{listing_with}

@@ -5,11 +5,10 @@ use Rattle.std.specs.List.Sorted.{IsStrictlySortedBy}
 use Rattle.std.proofs.lemmas.Bool.Decides.{nat_tests}
 use Rattle.short_text.specs.Order.{bytes_cmp}
 use Rattle.deck_reader.specs.declared.batch.Account.{Account}
-use Rattle.deck_reader.specs.JobView.{JobView}
 use Rattle.account_book.specs.BookView.{openings_of}
 use Rattle.account_book.specs.Places.{Claim, after, is_accepted, is_on, place_balance}
 use Rattle.accounts_text.specs.Text.{is_account, is_account_name}
-use Rattle.batch_listing.specs.Listing.{charged, closed_accounts}
+use Rattle.algolw_meaning.specs.Charging.{charged}
 use Rattle.batch_monitor.specs.Closing.{ClosedAreAccounts}
 
 -- ---- balances fall

@@ -1,10 +1,8 @@
 -- The closing balances of a batch that was run.
 use Rattle.std.proofs.Common.{◌≡◌, ℕ, Bool, true, false, [], List, Option, refl, sym, subst}
-use Rattle.std.specs.Io.KnownBytes.{Appends}
 use Rattle.std.proofs.KnownBytes.{Appends-nil}
 use Rattle.deck_reader.specs.declared.batch.Account.{Account}
 use Rattle.deck_reader.specs.Batch.{batch_with}
-use Rattle.deck_reader.specs.JobView.{JobView}
 use Rattle.account_book.specs.BookView.{openings_of}
 use Rattle.accounts_text.specs.Text.{AccountsList}
 use Rattle.batch_listing.specs.declared.audit.Audit.{Audit}

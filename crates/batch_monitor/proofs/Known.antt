@@ -1,11 +1,11 @@
 -- What is known of the bytes read and written, and of the cause of an answer.
-use Rattle.std.proofs.Common.{ℕ, Bool, [], inl, append-nil, ◌≡◌, ◌⊎◌, List, ◌++◌, Option, Some, None, Result, Ok, Err, true, false, refl, ap, sym, subst, ◌∙◌, inr, OnOk, OnErr, IfErr, IfSome, length, ◌≤◌, arith}
+use Rattle.std.proofs.Common.{ℕ, Bool, inl, append-nil, ◌≡◌, ◌⊎◌, List, ◌++◌, Option, Some, None, Result, Ok, Err, true, false, refl, ap, sym, subst, ◌∙◌, inr, OnOk, OnErr, IfErr, IfSome, length, ◌≤◌, arith}
 use Rattle.std.specs.Prelude.{not}
 use Rattle.std.specs.Io.KnownBytes.{Consumes, IsAtEnd}
 use Rattle.std.proofs.lemmas.List.{length-append}
 use Rattle.batch_io.specs.Causes.{Rose}
 use Rattle.deck_reader.specs.declared.batch.Account.{Account}
-use Rattle.deck_reader.specs.Batch.{passes, too_large}
+use Rattle.deck_reader.specs.Batch.{too_large}
 use Rattle.deck_reader.proofs.Limits.{passes_more}
 use Rattle.accounts_text.specs.Text.{AccountsText}
 use Rattle.batch_intake.specs.declared.halt.Halt.{Halt}
@@ -15,7 +15,7 @@ use Rattle.batch_monitor.specs.declared.top.Status.{Status}
 use Rattle.batch_monitor.specs.declared.top.Status.TheVariants as statuses
 use Rattle.batch_intake.specs.Halts.{IsTooLarge}
 use Rattle.batch_monitor.specs.Accounts.{Given, IsBadText, StatesNone, StatesSome}
-use Rattle.batch_monitor.specs.Outcome.{IsDone, NoneRose}
+use Rattle.batch_monitor.specs.Outcome.{NoneRose}
 
 -- what holds at an error
 pub at_err : {T E P : Type 0} (r : Result T E) → P → OnErr r P
@@ -45,12 +45,12 @@ so false e = cc
 
 -- ---- a source that tells all its bytes
 
-all_read : (bytes : List ℕ) (left : Option (List ℕ)) (input : List ℕ) → Consumes (Some bytes) left input → IsAtEnd left → bytes ≡ input
+pub all_read : (bytes : List ℕ) (left : Option (List ℕ)) (input : List ℕ) → Consumes (Some bytes) left input → IsAtEnd left → bytes ≡ input
 all_read bytes None input read end = absurd read
 all_read bytes (Some rest) input read end = read ∙ ap (λ (xs : List ℕ). input ++ xs) end ∙ append-nil input
 
 -- the whole source is too large where a part of it was
-all_too_large : (bytes : List ℕ) (left : Option (List ℕ)) → IsTooLarge (Some bytes) left → too_large bytes ≡ true
+pub all_too_large : (bytes : List ℕ) (left : Option (List ℕ)) → IsTooLarge (Some bytes) left → too_large bytes ≡ true
 all_too_large bytes None large = absurd large.read
 all_too_large bytes (Some rest) large = elim large.large [
   | inl passed ↦ ap too_large large.read ∙ passes_more large.input rest passed

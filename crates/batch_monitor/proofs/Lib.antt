@@ -4,3 +4,4 @@ pub mod Closings
 pub mod Endings
 pub mod Known
 pub mod SaidOrders
+pub mod Stating

@@ -4,13 +4,14 @@ use Rattle.std.specs.Prelude.{◌&&◌, codes, if◌then◌else◌, unwrap_or}
 use Rattle.std.specs.Int.{is_in_range}
 use Rattle.std.specs.Str.Parse.{digits_value}
 use Rattle.std.proofs.lemmas.Bool.{leb-true}
+use Rattle.deck_reader.specs.Forms as forms
 use Rattle.command_words.specs.declared.order.Order.{Order}
-use Rattle.command_words.specs.declared.order.Order.TheVariants.{Run, Make}
-use Rattle.command_words.specs.Form.{IsOrder, Text, Use, is_number, make_from, number_in, number_or, order_from, run_from, has_flag, value_of}
+use Rattle.command_words.specs.declared.order.Order.TheVariants.{Run, Make, Statement}
+use Rattle.command_words.specs.Form.{IsOrder, Text, Use, is_number, make_from, number_in, number_or, order_from, run_from, statement_from, has_flag, value_of}
 use Rattle.command_words.proofs.Fresh.{and_first, and_second}
 use Rattle.command_words.proofs.Orders.{order_is_given}
 use Rattle.batch_monitor.specs.declared.asked.Asked.{Asked}
-use Rattle.batch_monitor.specs.Orders.{SaysAccounts, SaysMake, SaysRun}
+use Rattle.batch_monitor.specs.Orders.{IsMake, IsRun, IsSaid, IsStatement, SaysAccounts, SaysMake, SaysRun, SaysStatement, WithAccounts}
 
 -- ---- how many jobs
 
@@ -37,18 +38,28 @@ run_makes_none k l (Some a) (Some b) seed jobs workers queue e = cc
 run_makes_none k l (Some a) None seed jobs workers queue e = cc
 run_makes_none k l None q seed jobs workers queue e = cc
 
-in_range : (m j : Option Text) (k l : Bool) (w q : Option ℕ) (seed jobs workers queue : ℕ) → order_from m j k l w q ≡ Some (Make seed jobs workers queue) → jobs ≤ 2000
-in_range None None k l w q seed jobs workers queue e = absurd (run_makes_none k l w q seed jobs workers queue e)
-in_range None (Some j) k l w q seed jobs workers queue e = cc
-in_range (Some m) None k l w q seed jobs workers queue e = cc
-in_range (Some m) (Some j) true l w q seed jobs workers queue e = cc
-in_range (Some m) (Some j) false true w q seed jobs workers queue e = cc
-in_range (Some m) (Some j) false false w q seed jobs workers queue e = most_jobs j jobs (jobs_given (number_in 0 4294967295 m) (number_in 1 2000 j) w q seed jobs workers queue e)
+statement_makes_none : (n : Option Text) (w q : Option ℕ) (seed jobs workers queue : ℕ) → statement_from n w q ≡ Some (Make seed jobs workers queue) → ⊥
+statement_makes_none (Some n) (Some a) (Some b) seed jobs workers queue e = cc
+statement_makes_none (Some n) (Some a) None seed jobs workers queue e = cc
+statement_makes_none (Some n) None q seed jobs workers queue e = cc
+statement_makes_none None w q seed jobs workers queue e = cc
+
+in_range : (m j s : Option Text) (k l : Bool) (w q : Option ℕ) (seed jobs workers queue : ℕ) → order_from m j s k l w q ≡ Some (Make seed jobs workers queue) → jobs ≤ 2000
+in_range None None None k l w q seed jobs workers queue e = absurd (run_makes_none k l w q seed jobs workers queue e)
+in_range None None (Some s) true l w q seed jobs workers queue e = cc
+in_range None None (Some s) false true w q seed jobs workers queue e = cc
+in_range None None (Some s) false false w q seed jobs workers queue e = absurd (statement_makes_none (forms.name_of s) w q seed jobs workers queue e)
+in_range None (Some j) s k l w q seed jobs workers queue e = cc
+in_range (Some m) None s k l w q seed jobs workers queue e = cc
+in_range (Some m) (Some j) (Some s) k l w q seed jobs workers queue e = cc
+in_range (Some m) (Some j) None true l w q seed jobs workers queue e = cc
+in_range (Some m) (Some j) None false true w q seed jobs workers queue e = cc
+in_range (Some m) (Some j) None false false w q seed jobs workers queue e = most_jobs j jobs (jobs_given (number_in 0 4294967295 m) (number_in 1 2000 j) w q seed jobs workers queue e)
 
 -- a batch of at most 2,000 jobs is made
-pub jobs_in_range : (words : List Text) (seed jobs workers queue : ℕ) → IsOrder words (Make seed jobs workers queue) → jobs ≤ 2000
+jobs_in_range : (words : List Text) (seed jobs workers queue : ℕ) → IsOrder words (Make seed jobs workers queue) → jobs ≤ 2000
 jobs_in_range words seed jobs workers queue h =
-    in_range (value_of (codes "make") h.uses) (value_of (codes "jobs") h.uses) (has_flag (codes "accounts") h.uses) (has_flag (codes "board") h.uses) (number_or 4 1 16 (value_of (codes "workers") h.uses)) (number_or 8 1 64 (value_of (codes "queue") h.uses))
+    in_range (value_of (codes "make") h.uses) (value_of (codes "jobs") h.uses) (value_of (codes "statement") h.uses) (has_flag (codes "accounts") h.uses) (has_flag (codes "board") h.uses) (number_or 4 1 16 (value_of (codes "workers") h.uses)) (number_or 8 1 64 (value_of (codes "queue") h.uses))
     seed jobs workers queue h.says
 
 -- ---- how many workers, and how long a queue
@@ -81,15 +92,25 @@ in_range_of words workers queue w q = record {
   room = within_or 8 1 64 (value_of (codes "queue") words) queue (omega arith) (omega arith) q;
 }
 
-run_given : (m j : Option Text) (k l : Bool) (w q : Option ℕ) (workers queue : ℕ) (accounts board : Bool) → order_from m j k l w q ≡ Some (Run workers queue accounts board) → (w ≡ Some workers) × (q ≡ Some queue)
-run_given None None k l (Some a) (Some b) workers queue accounts board e = (cc, cc)
-run_given None None k l (Some a) None workers queue accounts board e = absurd cc
-run_given None None k l None q workers queue accounts board e = absurd cc
-run_given None (Some j) k l w q workers queue accounts board e = absurd cc
-run_given (Some m) None k l w q workers queue accounts board e = absurd cc
-run_given (Some m) (Some j) true l w q workers queue accounts board e = absurd cc
-run_given (Some m) (Some j) false true w q workers queue accounts board e = absurd cc
-run_given (Some m) (Some j) false false w q workers queue accounts board e = absurd (makes_no_run (number_in 0 4294967295 m) (number_in 1 2000 j) w q e)
+run_given : (m j s : Option Text) (k l : Bool) (w q : Option ℕ) (workers queue : ℕ) (accounts board : Bool) → order_from m j s k l w q ≡ Some (Run workers queue accounts board) → (w ≡ Some workers) × (q ≡ Some queue)
+run_given None None None k l (Some a) (Some b) workers queue accounts board e = (cc, cc)
+run_given None None None k l (Some a) None workers queue accounts board e = absurd cc
+run_given None None None k l None q workers queue accounts board e = absurd cc
+run_given None None (Some s) true l w q workers queue accounts board e = absurd cc
+run_given None None (Some s) false true w q workers queue accounts board e = absurd cc
+run_given None None (Some s) false false w q workers queue accounts board e = absurd (states_no_run (forms.name_of s) w q e)
+  where
+    states_no_run : (n : Option Text) (w q : Option ℕ) → statement_from n w q ≡ Some (Run workers queue accounts board) → ⊥
+    states_no_run (Some n) (Some a) (Some b) e = cc
+    states_no_run (Some n) (Some a) None e = cc
+    states_no_run (Some n) None q e = cc
+    states_no_run None w q e = cc
+run_given None (Some j) s k l w q workers queue accounts board e = absurd cc
+run_given (Some m) None s k l w q workers queue accounts board e = absurd cc
+run_given (Some m) (Some j) (Some s) k l w q workers queue accounts board e = absurd cc
+run_given (Some m) (Some j) None true l w q workers queue accounts board e = absurd cc
+run_given (Some m) (Some j) None false true w q workers queue accounts board e = absurd cc
+run_given (Some m) (Some j) None false false w q workers queue accounts board e = absurd (makes_no_run (number_in 0 4294967295 m) (number_in 1 2000 j) w q e)
   where
     makes_no_run : (s n w q : Option ℕ) → make_from s n w q ≡ Some (Run workers queue accounts board) → ⊥
     makes_no_run (Some a) (Some b) (Some c) (Some d) e = cc
@@ -98,13 +119,17 @@ run_given (Some m) (Some j) false false w q workers queue accounts board e = abs
     makes_no_run (Some a) None w q e = cc
     makes_no_run None n w q e = cc
 
-make_given : (m j : Option Text) (k l : Bool) (w q : Option ℕ) (seed jobs workers queue : ℕ) → order_from m j k l w q ≡ Some (Make seed jobs workers queue) → (w ≡ Some workers) × (q ≡ Some queue)
-make_given None None k l w q seed jobs workers queue e = absurd (run_makes_none k l w q seed jobs workers queue e)
-make_given None (Some j) k l w q seed jobs workers queue e = absurd cc
-make_given (Some m) None k l w q seed jobs workers queue e = absurd cc
-make_given (Some m) (Some j) true l w q seed jobs workers queue e = absurd cc
-make_given (Some m) (Some j) false true w q seed jobs workers queue e = absurd cc
-make_given (Some m) (Some j) false false w q seed jobs workers queue e = given (number_in 0 4294967295 m) (number_in 1 2000 j) w q e
+make_given : (m j s : Option Text) (k l : Bool) (w q : Option ℕ) (seed jobs workers queue : ℕ) → order_from m j s k l w q ≡ Some (Make seed jobs workers queue) → (w ≡ Some workers) × (q ≡ Some queue)
+make_given None None None k l w q seed jobs workers queue e = absurd (run_makes_none k l w q seed jobs workers queue e)
+make_given None None (Some s) true l w q seed jobs workers queue e = absurd cc
+make_given None None (Some s) false true w q seed jobs workers queue e = absurd cc
+make_given None None (Some s) false false w q seed jobs workers queue e = absurd (statement_makes_none (forms.name_of s) w q seed jobs workers queue e)
+make_given None (Some j) s k l w q seed jobs workers queue e = absurd cc
+make_given (Some m) None s k l w q seed jobs workers queue e = absurd cc
+make_given (Some m) (Some j) (Some s) k l w q seed jobs workers queue e = absurd cc
+make_given (Some m) (Some j) None true l w q seed jobs workers queue e = absurd cc
+make_given (Some m) (Some j) None false true w q seed jobs workers queue e = absurd cc
+make_given (Some m) (Some j) None false false w q seed jobs workers queue e = given (number_in 0 4294967295 m) (number_in 1 2000 j) w q e
   where
     given : (s n w q : Option ℕ) → make_from s n w q ≡ Some (Make seed jobs workers queue) → (w ≡ Some workers) × (q ≡ Some queue)
     given (Some a) (Some b) (Some c) (Some d) e = (cc, cc)
@@ -113,55 +138,163 @@ make_given (Some m) (Some j) false false w q seed jobs workers queue e = given (
     given (Some a) None w q e = absurd cc
     given None n w q e = absurd cc
 
-pub run_in_range : (words : List Text) (workers queue : ℕ) (accounts board : Bool) → IsOrder words (Run workers queue accounts board) → InRange workers queue
-run_in_range words workers queue accounts board h =
-    let given = run_given (value_of (codes "make") h.uses) (value_of (codes "jobs") h.uses) (has_flag (codes "accounts") h.uses) (has_flag (codes "board") h.uses) (number_or 4 1 16 (value_of (codes "workers") h.uses)) (number_or 8 1 64 (value_of (codes "queue") h.uses)) workers queue accounts board h.says in
-    in_range_of h.uses workers queue given.0 given.1
-
-pub make_in_range : (words : List Text) (seed jobs workers queue : ℕ) → IsOrder words (Make seed jobs workers queue) → InRange workers queue
-make_in_range words seed jobs workers queue h =
-    let given = make_given (value_of (codes "make") h.uses) (value_of (codes "jobs") h.uses) (has_flag (codes "accounts") h.uses) (has_flag (codes "board") h.uses) (number_or 4 1 16 (value_of (codes "workers") h.uses)) (number_or 8 1 64 (value_of (codes "queue") h.uses)) seed jobs workers queue h.says in
-    in_range_of h.uses workers queue given.0 given.1
-
--- ---- words say one order
-
-one_order : (words : List Text) (one two : Order) → IsOrder words one → IsOrder words two → one ≡ two
-one_order words one two h k = ap (λ (o : Option Order). unwrap_or o one) (sym (order_is_given words one h) ∙ order_is_given words two k)
-
-pub not_run : (words : List Text) (seed jobs workers queue : ℕ) (asked : Asked) → IsOrder words (Make seed jobs workers queue) → SaysRun words asked → ⊥
-not_run words seed jobs workers queue asked h says = let e = one_order words (Make seed jobs workers queue) (Run says.workers says.queue asked.accounts asked.board) h says.order in cc
-
-pub not_made : (words : List Text) (workers queue : ℕ) (accounts board : Bool) (seed jobs : ℕ) → IsOrder words (Run workers queue accounts board) → SaysMake words seed jobs → ⊥
-not_made words workers queue accounts board seed jobs h says = let e = one_order words (Run workers queue accounts board) (Make seed jobs says.workers says.queue) h says.order in cc
-
-asked_in : Asked → Order → Asked
-asked_in other (Run workers queue accounts board) = record { accounts = accounts; board = board }
-asked_in other (Make seed jobs workers queue) = other
-
--- what a run was asked for is what the words say
-pub same_asked : (words : List Text) (workers queue : ℕ) (accounts board : Bool) (asked : Asked) → IsOrder words (Run workers queue accounts board) → SaysRun words asked → record { accounts = accounts; board = board } ≡ asked
-unfolding asked_in
-same_asked words workers queue accounts board asked h says =
-    ap (asked_in asked) (one_order words (Run workers queue accounts board) (Run says.workers says.queue asked.accounts asked.board) h says.order)
-
-pub says_run : (words : List Text) (workers queue : ℕ) (accounts board : Bool) → IsOrder words (Run workers queue accounts board) → SaysRun words (record { accounts = accounts; board = board })
-says_run words workers queue accounts board h = record { workers = workers; queue = queue; order = h }
-
-pub same_made : (words : List Text) (seed jobs workers queue s j : ℕ) → IsOrder words (Make seed jobs workers queue) → SaysMake words s j → (seed ≡ s) × (jobs ≡ j)
-same_made words seed jobs workers queue s j h says =
-    let e = one_order words (Make seed jobs workers queue) (Make s j says.workers says.queue) h says.order in
-    (cc, cc)
+statement_given : (m j s : Option Text) (k l : Bool) (w q : Option ℕ) (name : Text) (workers queue : ℕ) → order_from m j s k l w q ≡ Some (Statement name workers queue) → (w ≡ Some workers) × (q ≡ Some queue)
+statement_given None None None k l w q name workers queue e = absurd (runs_none k l w q e)
+  where
+    runs_none : (k l : Bool) (w q : Option ℕ) → run_from k l w q ≡ Some (Statement name workers queue) → ⊥
+    runs_none k l (Some a) (Some b) e = cc
+    runs_none k l (Some a) None e = cc
+    runs_none k l None q e = cc
+statement_given None None (Some s) true l w q name workers queue e = absurd cc
+statement_given None None (Some s) false true w q name workers queue e = absurd cc
+statement_given None None (Some s) false false w q name workers queue e = given (forms.name_of s) w q e
+  where
+    given : (n : Option Text) (w q : Option ℕ) → statement_from n w q ≡ Some (Statement name workers queue) → (w ≡ Some workers) × (q ≡ Some queue)
+    given (Some n) (Some a) (Some b) e = (cc, cc)
+    given (Some n) (Some a) None e = absurd cc
+    given (Some n) None q e = absurd cc
+    given None w q e = absurd cc
+statement_given None (Some j) s k l w q name workers queue e = absurd cc
+statement_given (Some m) None s k l w q name workers queue e = absurd cc
+statement_given (Some m) (Some j) (Some s) k l w q name workers queue e = absurd cc
+statement_given (Some m) (Some j) None true l w q name workers queue e = absurd cc
+statement_given (Some m) (Some j) None false true w q name workers queue e = absurd cc
+statement_given (Some m) (Some j) None false false w q name workers queue e = absurd (makes_none (number_in 0 4294967295 m) (number_in 1 2000 j) w q e)
+  where
+    makes_none : (s n w q : Option ℕ) → make_from s n w q ≡ Some (Statement name workers queue) → ⊥
+    makes_none (Some a) (Some b) (Some c) (Some d) e = cc
+    makes_none (Some a) (Some b) (Some c) None e = cc
+    makes_none (Some a) (Some b) None q e = cc
+    makes_none (Some a) None w q e = cc
+    makes_none None n w q e = cc
 
 pub said_as : {words : List Text} {one two : Order} → one ≡ two → IsOrder words one → IsOrder words two
 said_as {words} e h = subst (λ (o : Order). IsOrder words o) e h
 
--- an accounts file that a run was asked for is asked for by the words
-pub accounts_said : {P : Type 0} (words : List Text) (workers queue : ℕ) (accounts board : Bool) → IsOrder words (Run workers queue accounts board) → (accounts ≡ true) × P → SaysAccounts words × P
-accounts_said words workers queue accounts board h known =
-    (record { asked = record { accounts = accounts; board = board }; run = says_run words workers queue accounts board h; accounts = known.0 }, known.1)
+run_in_range : (words : List Text) (workers queue : ℕ) (accounts board : Bool) → IsOrder words (Run workers queue accounts board) → InRange workers queue
+run_in_range words workers queue accounts board h =
+    let given = run_given (value_of (codes "make") h.uses) (value_of (codes "jobs") h.uses) (value_of (codes "statement") h.uses) (has_flag (codes "accounts") h.uses) (has_flag (codes "board") h.uses) (number_or 4 1 16 (value_of (codes "workers") h.uses)) (number_or 8 1 64 (value_of (codes "queue") h.uses)) workers queue accounts board h.says in
+    in_range_of h.uses workers queue given.0 given.1
 
-pub or_said : {A P : Type 0} (words : List Text) (workers queue : ℕ) (accounts board : Bool) → IsOrder words (Run workers queue accounts board) → A ⊎ ((accounts ≡ true) × P) → A ⊎ (SaysAccounts words × P)
-or_said words workers queue accounts board h known = elim known [
-  | inl a ↦ inl a
-  | inr b ↦ inr (accounts_said words workers queue accounts board h b)
+make_in_range : (words : List Text) (seed jobs workers queue : ℕ) → IsOrder words (Make seed jobs workers queue) → InRange workers queue
+make_in_range words seed jobs workers queue h =
+    let given = make_given (value_of (codes "make") h.uses) (value_of (codes "jobs") h.uses) (value_of (codes "statement") h.uses) (has_flag (codes "accounts") h.uses) (has_flag (codes "board") h.uses) (number_or 4 1 16 (value_of (codes "workers") h.uses)) (number_or 8 1 64 (value_of (codes "queue") h.uses)) seed jobs workers queue h.says in
+    in_range_of h.uses workers queue given.0 given.1
+
+statement_in_range : (words : List Text) (name : Text) (workers queue : ℕ) → IsOrder words (Statement name workers queue) → InRange workers queue
+statement_in_range words name workers queue h =
+    let given = statement_given (value_of (codes "make") h.uses) (value_of (codes "jobs") h.uses) (value_of (codes "statement") h.uses) (has_flag (codes "accounts") h.uses) (has_flag (codes "board") h.uses) (number_or 4 1 16 (value_of (codes "workers") h.uses)) (number_or 8 1 64 (value_of (codes "queue") h.uses)) name workers queue h.says in
+    in_range_of h.uses workers queue given.0 given.1
+
+-- an order that some words say has such numbers, of whichever kind it is
+pub said_in_range : (order : Order) (workers queue : ℕ) → IsSaid order
+    → ((a : Bool) × (b : Bool) × (order ≡ Run workers queue a b)) ⊎ (((s : ℕ) × (j : ℕ) × (order ≡ Make s j workers queue)) ⊎ ((n : Text) × (order ≡ Statement n workers queue)))
+    → InRange workers queue
+said_in_range order workers queue said is = elim is [
+  | inl run ↦ run_in_range said.words workers queue run.0 run.1 (said_as run.2 said.says)
+  | inr (inl make) ↦ make_in_range said.words make.0 make.1 workers queue (said_as make.2 said.says)
+  | inr (inr statement) ↦ statement_in_range said.words statement.0 workers queue (said_as statement.1 said.says)
 ]
+
+-- and makes so few jobs
+pub said_few : (order : Order) (seed jobs workers queue : ℕ) → IsSaid order → order ≡ Make seed jobs workers queue → jobs ≤ 2000
+said_few order seed jobs workers queue said is = jobs_in_range said.words seed jobs workers queue (said_as is said.says)
+
+-- ---- what an order is
+
+asked_in : Asked → Order → Asked
+asked_in other (Run workers queue accounts board) = record { accounts = accounts; board = board }
+asked_in other (Make seed jobs workers queue) = other
+asked_in other (Statement name workers queue) = other
+
+name_in : Text → Order → Text
+name_in n (Run workers queue accounts board) = n
+name_in n (Make seed jobs workers queue) = n
+name_in n (Statement name workers queue) = name
+
+module _ (order : Order) (workers queue : ℕ) (accounts board : Bool) (is : order ≡ Run workers queue accounts board) where
+  -- what a run was asked for is what the order asks for
+  pub same_asked : (asked : Asked) → IsRun order asked → record { accounts = accounts; board = board } ≡ asked
+  unfolding asked_in
+  same_asked asked run = ap (asked_in asked) (sym is ∙ run.is)
+
+  -- an accounts file that a run was asked for is asked for by the order
+  pub with_accounts : {P : Type 0} → (accounts ≡ true) × P → WithAccounts order × P
+  with_accounts known = (record { asked = record { accounts = accounts; board = board }; run = record { workers = workers; queue = queue; is = is }; accounts = known.0 }, known.1)
+
+  pub or_with : {A P : Type 0} → A ⊎ ((accounts ≡ true) × P) → A ⊎ (WithAccounts order × P)
+  or_with known = elim known [
+    | inl a ↦ inl a
+    | inr b ↦ inr (with_accounts b)
+  ]
+
+  pub run_not_made : (seed jobs : ℕ) → IsMake order seed jobs → ⊥
+  run_not_made seed jobs make = let e = sym is ∙ make.is in cc
+
+  pub run_not_stated : (name : Text) → IsStatement order name → ⊥
+  run_not_stated name statement = let e = sym is ∙ statement.is in cc
+
+module _ (order : Order) (seed jobs workers queue : ℕ) (is : order ≡ Make seed jobs workers queue) where
+  -- what was made is what the order says
+  pub same_made : (s j : ℕ) → IsMake order s j → (seed ≡ s) × (jobs ≡ j)
+  same_made s j make = let e = sym is ∙ make.is in (cc, cc)
+
+  pub made_not_run : (asked : Asked) → IsRun order asked → ⊥
+  made_not_run asked run = let e = sym is ∙ run.is in cc
+
+  pub made_not_stated : (name : Text) → IsStatement order name → ⊥
+  made_not_stated name statement = let e = sym is ∙ statement.is in cc
+
+module _ (order : Order) (name : Text) (workers queue : ℕ) (is : order ≡ Statement name workers queue) where
+  -- the account that was stated is the one that the order names
+  pub same_name : (said : Text) → IsStatement order said → name ≡ said
+  unfolding name_in
+  same_name said statement = ap (name_in name) (sym is ∙ statement.is)
+
+  pub stated_not_run : (asked : Asked) → IsRun order asked → ⊥
+  stated_not_run asked run = let e = sym is ∙ run.is in cc
+
+  pub stated_not_made : (seed jobs : ℕ) → IsMake order seed jobs → ⊥
+  stated_not_made seed jobs make = let e = sym is ∙ make.is in cc
+
+-- what an order asks for with an accounts file
+pub with_asked : (order : Order) (asked : Asked) → IsRun order asked → WithAccounts order → asked.accounts ≡ true
+unfolding asked_in
+with_asked order asked run its = let e : its.asked ≡ asked = ap (asked_in asked) (sym its.run.is ∙ run.is) in ap (λ (a : Asked). a.accounts) (sym e) ∙ its.accounts
+
+pub or_asked : {A P : Type 0} (order : Order) (asked : Asked) → IsRun order asked → A ⊎ (WithAccounts order × P) → A ⊎ ((asked.accounts ≡ true) × P)
+or_asked order asked run known = elim known [
+  | inl a ↦ inl a
+  | inr b ↦ inr (with_asked order asked run b.0, b.1)
+]
+
+-- ---- words say one order
+
+module _ (words : List Text) (order : Order) (says : IsOrder words order) where
+  said_so : (other : Order) → IsOrder words other → order ≡ other
+  said_so other also = ap (λ (o : Option Order). unwrap_or o order) (sym (order_is_given words order says) ∙ order_is_given words other also)
+
+  pub said : IsSaid order
+  said = record { words = words; says = says }
+
+  -- the order that they say is what they say that it is
+  pub said_run : (asked : Asked) → SaysRun words asked → IsRun order asked
+  said_run asked run = record { workers = run.workers; queue = run.queue; is = said_so (Run run.workers run.queue asked.accounts asked.board) run.order }
+
+  pub said_make : (seed jobs : ℕ) → SaysMake words seed jobs → IsMake order seed jobs
+  said_make seed jobs make = record { workers = make.workers; queue = make.queue; is = said_so (Make seed jobs make.workers make.queue) make.order }
+
+  pub said_statement : (name : Text) → SaysStatement words name → IsStatement order name
+  said_statement name statement = record { workers = statement.workers; queue = statement.queue; is = said_so (Statement name statement.workers statement.queue) statement.order }
+
+  -- an accounts file that the order asks for is asked for by the words
+  pub says_accounts : {P : Type 0} → WithAccounts order × P → SaysAccounts words × P
+  says_accounts known =
+      let its = known.0 in
+      (record { asked = its.asked; run = record { workers = its.run.workers; queue = its.run.queue; order = said_as its.run.is says }; accounts = its.accounts }, known.1)
+
+  pub or_says : {A P : Type 0} → A ⊎ (WithAccounts order × P) → A ⊎ (SaysAccounts words × P)
+  or_says known = elim known [
+    | inl a ↦ inl a
+    | inr b ↦ inr (says_accounts b)
+  ]

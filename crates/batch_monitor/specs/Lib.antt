@@ -6,4 +6,5 @@ pub mod Made
 pub mod Orders
 pub mod Outcome
 pub mod Reading
+pub mod Stated
 pub mod Status

@@ -5,7 +5,9 @@ mod accounts;
 mod asked;
 mod laws;
 mod made;
+mod orders;
 mod run;
+mod statement;
 mod top;
 
 pub use laws::closed_are_accounts;

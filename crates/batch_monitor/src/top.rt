@@ -1,20 +1,19 @@
-ghost use Rattle.std.specs.Prelude.{◌≡◌, ◌⊎◌, ℕ, IfSome, false, map, string_bytes, true};
+ghost use Rattle.std.specs.Prelude.{◌≡◌, ◌⊎◌, ℕ, List, IfSome, false, map, string_bytes, true};
 ghost use Rattle.batch_io.specs.Causes.{Rose};
 ghost use Rattle.deck_reader.specs.Batch.{too_large};
 ghost use Rattle.batch_intake.specs.Halts.{IsTooLarge};
 ghost use Rattle.batch_monitor.specs.declared.asked.Asked.{Asked};
 ghost use Rattle.batch_monitor.specs.Accounts.{IsBadText, StatesNone, StatesSome};
-ghost use Rattle.batch_monitor.specs.Orders.{SaysAccounts, SaysMake, SaysNothing, SaysRun};
+ghost use Rattle.batch_monitor.specs.Orders.{SaysAccounts, SaysMake, SaysNothing, SaysRun, SaysStatement};
 ghost use Rattle.batch_monitor.specs.Outcome.{IsCut, IsCutInBalances, IsDone, IsMade, IsShown, NoneRose};
+ghost use Rattle.batch_monitor.specs.Stated.{EndsBy, HasStated};
 ghost use Rattle.batch_monitor.specs.Status.{number_of, status_after};
 
 use crate::accounts::Unread;
-use crate::asked::Asked;
-use crate::made::run_made;
-use crate::run::run_batch;
+use crate::orders::{obey, staff_for};
 use batch_io::{Gate, Sink, Source};
-use batch_runner::{Halt, Staff};
-use command_words::{Order, WordsError, read_words};
+use batch_runner::Halt;
+use command_words::{WordsError, read_words};
 use std::alloc::{AllocError, Global};
 use std::sync::Wait;
 use std::thread::Threads;
@@ -22,7 +21,7 @@ use std::thread::Threads;
 /// How a run ended.
 #[derive(Clone, Copy, Debug, PartialEq, Eq)]
 pub enum Status {
-    /// The source was read to its end and the listing written whole.
+    /// The source was read to its end, and what the words ask for was written whole.
     Done,
     /// The command words aren't of the form. Nothing was read or written.
     BadWords,
@@ -90,7 +89,8 @@ impl From<Unread> for Status {
 /// and writes the summary of its listing. With `--board` a line behind the listing tells how many jobs have arrived, were accepted
 /// and refused, have ended, and are printed. With `--accounts` the opening balances of a batch that is read are those that an
 /// accounts file states, which is read first, and behind the listing a text is written that states the closing balances, which
-/// may be the next batch's opening ones. So many workers run the jobs as the words say, in threads of their own but for one,
+/// may be the next batch's opening ones. With `--statement` the batch is read and its jobs are run as well, and only the statement
+/// of one account is written. So many workers run the jobs as the words say, in threads of their own but for one,
 /// and as many accepted jobs as they say may wait for them: no byte depends on these numbers, nor on what the workers do when.
 pub fn run_monitor<R: Threads + Wait + Sync, S: Source, K: Sink, A: Source, B: Sink, G: Gate>(
     rt: &R,
@@ -171,20 +171,24 @@ pub fn run_monitor<R: Threads + Wait + Sync, S: Source, K: Sink, A: Source, B: S
     ensures made { (seed jobs : ℕ) → SaysMake (map string_bytes words.now) seed jobs
         → IsMade seed jobs (K.written sink.old) (K.written sink.new) result
         × (src.new ≡ src.old) × (accounts_src.new ≡ accounts_src.old) × (accounts_sink.new ≡ accounts_sink.old) }
+
+    // Where the statement of an account is asked for, it was written whole; or nothing was, or where a write failed a prefix of it.
+    // The accounts' ends are as they were.
+    ensures statement { (name : List ℕ) → SaysStatement (map string_bytes words.now) name
+        → HasStated name (S.left src.old) (S.left src.new) (K.written sink.old) (K.written sink.new) (sink.new ≡ sink.old) result
+        × (accounts_src.new ≡ accounts_src.old) × (accounts_sink.new ≡ accounts_sink.old) }
+
+    // Such a run comes to its end, too, where no read and no write fails: a batch that fits is stated, and another one refused.
+    ensures stated { (name : List ℕ) → SaysStatement (map string_bytes words.now) name
+        → (Rose (S.faults src.old) (S.faults src.new) → ⊥) → (Rose (K.faults sink.old) (K.faults sink.new) → ⊥)
+        → IfSome (S.left src.old) (λ b. EndsBy (too_large b) result) }
 {
     match read_words(alloc, words) {
-        Ok(
-            Order::Run {
-                workers,
-                queue,
-                accounts,
-                board,
-            },
-        ) => match Staff::new(alloc, workers, queue) {
-            Ok(staff) => run_batch(
+        Ok(order) => match staff_for(alloc, &order) {
+            Ok(staff) => obey(
                 rt,
                 alloc,
-                Asked { accounts, board },
+                &order,
                 src,
                 sink,
                 accounts_src,
@@ -192,17 +196,6 @@ pub fn run_monitor<R: Threads + Wait + Sync, S: Source, K: Sink, A: Source, B: S
                 staff,
                 gate,
             ),
-            Err(AllocError) => Status::NoMemory,
-        },
-        Ok(
-            Order::Make {
-                seed,
-                jobs,
-                workers,
-                queue,
-            },
-        ) => match Staff::new(alloc, workers, queue) {
-            Ok(staff) => status_after(run_made(rt, alloc, sink, seed, jobs, staff, gate)),
             Err(AllocError) => Status::NoMemory,
         },
         Err(WordsError::BadWords) => Status::BadWords,

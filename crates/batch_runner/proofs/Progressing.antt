@@ -10,6 +10,9 @@ use Rattle.deck_reader.specs.JobView.{JobView}
 use Rattle.deck_reader.specs.Batch.{batch_with, passes, too_large}
 use Rattle.deck_reader.proofs.Staying.{accounts_stay, jobs_stay, taken_and_kept}
 use Rattle.account_book.specs.BookView.{openings_of}
+use Rattle.account_book.specs.declared.decision.Decision.{Decision}
+use Rattle.algolw_meaning.specs.Charging.{decision_at, decisions}
+use Rattle.algolw_meaning.proofs.Charging.{decisions_more}
 use Rattle.batch_listing.specs.declared.audit.Audit.{Audit}
 use Rattle.batch_listing.specs.Behind.{IsBehind}
 use Rattle.batch_listing.specs.Listing.{closing_lines, listing_with, section, sections}
@@ -25,7 +28,7 @@ use Rattle.batch_intake.specs.declared.halt.Halt.TheVariants.{NoMemory, ReadFaul
 use Rattle.batch_intake.specs.declared.intake.Intake.{Intake}
 use Rattle.batch_runner.specs.Outcome.{Outside, HasCause, HasHalted}
 use Rattle.batch_intake.specs.Halts.{IsTooLarge}
-use Rattle.batch_runner.specs.Progress.{Progress, openings, HasWritten, Standing, StandsSince, GoesOn, IsOpened, IsServed, begun, progress}
+use Rattle.batch_runner.specs.Progress.{Progress, openings, HasWritten, Standing, StandsSince, GoesOn, HasAll, IsDecided, IsOpened, begun, progress}
 use Rattle.batch_intake.specs.Taking.{Knows, HasRead, StopCause, ReadsOn, StopsReading, StopsFront, jobs_by}
 
 -- ---- the sections of a list of jobs that is cut
@@ -170,9 +173,9 @@ take_first zero xs ys h = refl
 take_first (suc n) [] ys h = absurd (omega arith)
 take_first (suc n) (x ∷ xs) ys h = ap (λ (js : List JobView). x ∷ js) (take_first n xs ys (omega arith))
 
-pub reads_on : (p q : Progress) → p.halt ≡ None → q.halt ≡ None → q.audit ≡ p.audit → q.written ≡ p.written → q.outside.written ≡ p.outside.written → q.outside.write_faults ≡ p.outside.write_faults
+pub reads_on : (p q : Progress) → p.halt ≡ None → q.halt ≡ None → q.audit ≡ p.audit → q.written ≡ p.written → q.became ≡ p.became → q.outside.written ≡ p.outside.written → q.outside.write_faults ≡ p.outside.write_faults
     → ReadsOn p.intake q.intake p.outside.left q.outside.left p.outside.read_faults q.outside.read_faults → GoesOn p q
-reads_on p q free still audit count written faults reads = record { stands = stands }
+reads_on p q free still audit count same written faults reads = record { stands = stands }
   where
     same_jobs : p.written ≤ length (jobs_by p.intake) → take q.written (jobs_by q.intake) ≡ take p.written (jobs_by p.intake)
     same_jobs few = ap (λ (n : ℕ). take n (jobs_by q.intake)) count ∙ ap (take p.written) reads.more.1 ∙ take_first p.written (jobs_by p.intake) reads.more.0 few
@@ -185,6 +188,7 @@ reads_on p q free still audit count written faults reads = record { stands = sta
         let jobs = same_jobs h.few in
         let Behind : Audit → Type 0 = λ a. IsBehind a.book (take p.written (jobs_by p.intake)) in
         let Tallied : Audit → Type 0 = λ a. a.tally ≡ sections_tally (openings_of a.book.accounts) (take p.written (jobs_by p.intake)) in
+        let Decided : Audit → Type 0 = λ a. p.became ≡ decisions (openings_of a.book.accounts) (take p.written (jobs_by p.intake)) in
         let Wrote : Audit → Type 0 = λ a. Appends start.written p.outside.written (heading ++ sections (openings_of a.book.accounts) (take p.written (jobs_by p.intake))) in
         record {
           input = h.input ++ reads.piece;
@@ -193,6 +197,7 @@ reads_on p q free still audit count written faults reads = record { stands = sta
           few = omega (arith, h.few, count, ap length reads.more.1, length-append (jobs_by p.intake) reads.more.0);
           behind = subst (IsBehind q.audit.book) (sym jobs) (subst Behind (sym audit) h.behind);
           tally = subst (λ (js : List JobView). q.audit.tally ≡ sections_tally (openings q) js) (sym jobs) (subst Tallied (sym audit) h.tally);
+          decided = subst (λ (js : List JobView). q.became ≡ decisions (openings q) js) (sym jobs) (same ∙ subst Decided (sym audit) h.decided);
           wrote = subst (λ (js : List JobView). Appends start.written q.outside.written (heading ++ sections (openings q) js)) (sym jobs)
               (subst (λ (w : Option (List ℕ)). Appends start.written w (heading ++ sections (openings q) (take p.written (jobs_by p.intake)))) (sym written) (subst Wrote (sym audit) h.wrote));
           read_faults = reads.kept ∙ h.read_faults;
@@ -241,6 +246,7 @@ pub record Made (p q : Progress) (job : JobView) (piece : List ℕ) : Type 0 whe
   pub count : q.written ≡ p.written + 1
   pub behind : (earlier : List JobView) → IsBehind p.audit.book earlier → IsBehind q.audit.book (earlier ++ job ∷ [])
   pub tally : (earlier : List JobView) → IsBehind p.audit.book earlier → p.audit.tally ≡ sections_tally (openings p) earlier → q.audit.tally ≡ sections_tally (openings p) (earlier ++ job ∷ [])
+  pub decided : (earlier : List JobView) → IsBehind p.audit.book earlier → q.became ≡ p.became ++ decision_at (openings p) earlier job ∷ []
   pub wrote : Appends p.outside.written q.outside.written piece
   pub faults : q.outside.write_faults ≡ p.outside.write_faults
 
@@ -284,6 +290,11 @@ writes_next p q job rest piece next made = record { stands = stands }
           few = omega arith;
           behind = subst (IsBehind q.audit.book) (sym now_done) (made.behind done h.behind);
           tally = made.tally done h.behind h.tally ∙ ap (λ (o : List ℕ). sections_tally o (done ++ job ∷ [])) (sym same) ∙ ap (sections_tally (openings q)) (sym now_done);
+          decided = made.decided done h.behind
+              ∙ ap (λ (ds : List Decision). ds ++ decision_at (openings p) done job ∷ []) h.decided
+              ∙ sym (decisions_more (openings p) done job)
+              ∙ ap (λ (o : List ℕ). decisions o (done ++ job ∷ [])) (sym same)
+              ∙ ap (decisions (openings q)) (sym now_done);
           wrote = subst (Appends start.written q.outside.written) (sym text) (Appends-trans start.written p.outside.written q.outside.written (heading ++ sections (openings p) done) piece h.wrote made.wrote);
           read_faults = next.read_faults ∙ h.read_faults;
           write_faults = made.faults ∙ h.write_faults;
@@ -344,20 +355,25 @@ take_whole zero (x ∷ xs) h = absurd (omega arith)
 take_whole (suc n) [] h = refl
 take_whole (suc n) (x ∷ xs) h = ap (λ (js : List JobView). x ∷ js) (take_whole n xs (omega arith))
 
-pub all_so : (given : Option (List Account)) (start : Outside) (p : Progress) → p.halt ≡ None → p.intake.reader ≡ None → length (jobs_by p.intake) ≤ p.written → StandsSince given start p → IsServed given start p.outside p.audit p.intake.stray
-all_so given start p free ended all stands = record {
-  input = h.input;
-  read = h.read;
-  to_end = known.0;
-  fits = known.1;
-  accounts = sym (ap (λ (b : Batch). b.accounts) known.2);
-  stray_is = sym (ap (λ (b : Batch). b.stray) known.2);
-  behind = subst (IsBehind p.audit.book) jobs h.behind;
-  tally = h.tally ∙ ap (sections_tally (openings p)) jobs ∙ ap (λ (xs : List Account). sections_tally (openings_of xs) (batch_with given h.input).jobs) accounts;
-  wrote = subst (λ (xs : List Account). Appends start.written p.outside.written (heading ++ sections (openings_of xs) (batch_with given h.input).jobs)) accounts
-      (subst (λ (js : List JobView). Appends start.written p.outside.written (heading ++ sections (openings p) js)) jobs h.wrote);
-  read_faults = h.read_faults;
-  write_faults = h.write_faults;
+pub decided_so : (given : Option (List Account)) (start : Outside) (p : Progress) → p.halt ≡ None → p.intake.reader ≡ None → length (jobs_by p.intake) ≤ p.written → StandsSince given start p
+    → IsDecided given start p.outside p.audit p.intake.stray (jobs_by p.intake) p.became
+decided_so given start p free ended all stands = record {
+  served = record {
+    input = h.input;
+    read = h.read;
+    to_end = known.0;
+    fits = known.1;
+    accounts = accounts;
+    stray_is = sym (ap (λ (b : Batch). b.stray) known.2);
+    behind = subst (IsBehind p.audit.book) jobs h.behind;
+    tally = h.tally ∙ ap (sections_tally (openings p)) jobs ∙ ap (λ (xs : List Account). sections_tally (openings_of xs) (batch_with given h.input).jobs) accounts;
+    wrote = subst (λ (xs : List Account). Appends start.written p.outside.written (heading ++ sections (openings_of xs) (batch_with given h.input).jobs)) accounts
+        (subst (λ (js : List JobView). Appends start.written p.outside.written (heading ++ sections (openings p) js)) jobs h.wrote);
+    read_faults = h.read_faults;
+    write_faults = h.write_faults;
+  };
+  jobs_are = sym (ap (λ (b : Batch). b.jobs) known.2);
+  decided = h.decided ∙ ap (decisions (openings p)) jobs ∙ ap (λ (xs : List Account). decisions (openings_of xs) (batch_with given h.input).jobs) accounts;
 }
   where
     h : HasWritten given start p
@@ -372,14 +388,27 @@ all_so given start p free ended all stands = record {
     jobs : take p.written (jobs_by p.intake) ≡ (batch_with given h.input).jobs
     jobs = take_whole p.written (jobs_by p.intake) all ∙ sym (ap (λ (b : Batch). b.jobs) known.2)
 
+-- what all is so of is so of what it is
+pub carried : (given : Option (List Account)) (start now now' : Outside) (docket docket' : Docket) → now ≡ now' → docket ≡ docket' → HasAll given start now docket → HasAll given start now' docket'
+carried given start now now' docket docket' outside same all =
+    subst (λ (d : Docket). HasAll given start now' d) same (subst (λ (o : Outside). HasAll given start o docket) outside all)
+
+-- before the first section, what a docket keeps is what it was given
+pub began : (given : Option (List Account)) (start now : Outside) (intake intake' : Intake) (audit audit' : Audit) → intake' ≡ intake → audit' ≡ audit → HasWritten given start (begun now intake audit) → HasWritten given start (begun now intake' audit')
+began given start now intake intake' audit audit' same_intake same_audit h =
+    subst (λ (a : Audit). HasWritten given start (begun now intake' a)) (sym same_audit) (subst (λ (i : Intake). HasWritten given start (begun now i audit)) (sym same_intake) h)
+
 pub stopped_so : (given : Option (List Account)) (start : Outside) (p : Progress) (halt : Halt) → p.halt ≡ Some halt → StandsSince given start p → HasHalted given start p.outside halt
 stopped_so given start p halt halted stands = subst (Standing given start p) halted stands
 
 -- a docket before the first section
-pub begun_so : (given : Option (List Account)) (start now : Outside) (docket : Docket) → docket.written ≡ 0 → docket.halt ≡ None → HasWritten given start (begun now docket.intake docket.audit) → StandsSince given start (progress docket now)
-begun_so given start now docket none free h =
+pub begun_so : (given : Option (List Account)) (start now : Outside) (docket : Docket) → docket.written ≡ 0 → docket.decisions.items ≡ [] → docket.halt ≡ None → HasWritten given start (begun now docket.intake docket.audit)
+    → StandsSince given start (progress docket now)
+begun_so given start now docket none undecided free h =
     let same : progress docket now ≡ begun now docket.intake docket.audit =
-    ap (λ (n : ℕ). record (progress docket now) { written = n }) none ∙ ap (λ (halt : Option Halt). record (begun now docket.intake docket.audit) { halt = halt }) free in
+    ap (λ (n : ℕ). record (progress docket now) { written = n }) none
+    ∙ ap (λ (ds : List Decision). record (progress docket now) { written = 0; became = ds }) undecided
+    ∙ ap (λ (halt : Option Halt). record (begun now docket.intake docket.audit) { halt = halt }) free in
     subst (StandsSince given start) (sym same) h
 
 -- without a section, nothing is written
@@ -426,6 +455,7 @@ opened_so given start now intake audit opened wrote read_faults write_faults = r
   few = omega arith;
   behind = opened.behind;
   tally = opened.tally;
+  decided = refl;
   wrote = subst (λ (text : List ℕ). Appends start.written now.written text) (sym (append-nil heading)) wrote;
   read_faults = read_faults;
   write_faults = write_faults;

@@ -3,7 +3,8 @@ use Rattle.std.specs.Prelude.{ℕ, ◌≡◌, false, List, Option}
 use Rattle.std.specs.Io.KnownBytes.{Consumes, Appends, IsAtEnd}
 use Rattle.batch_io.specs.Causes.{Rose}
 use Rattle.deck_reader.specs.declared.batch.Account.{Account}
-use Rattle.deck_reader.specs.Batch.{batch_with, too_large}
+use Rattle.deck_reader.specs.Batch.{batch, batch_with, too_large}
+use Rattle.account_statements.specs.Statement.{statement_in}
 use Rattle.batch_listing.specs.declared.audit.Audit.{Audit}
 use Rattle.batch_listing.specs.Behind.{IsBehind}
 use Rattle.batch_listing.specs.Listing.{listing_with}
@@ -27,6 +28,15 @@ pub record IsCutShort (given : Option (List Account)) (left left' written writte
   pub input : List ℕ
   pub read : Consumes left left' input
   pub wrote : AppendsPrefix written written' (listing_with given input)
+
+-- the whole source was read, it wasn't too large, and this is the statement of the account with this name in its batch, or the text that says
+-- that there is none
+pub record IsStated (name : List ℕ) (left left' : Option (List ℕ)) (text : List ℕ) : Type 0 where
+  pub input : List ℕ
+  pub read : Consumes left left' input
+  pub to_end : IsAtEnd left'
+  pub fits : too_large input ≡ false
+  pub states : text ≡ statement_in name (batch input)
 
 -- what a source has left and a sink was given, as far as they tell, and how many faults each has met
 pub record Outside : Type 0 where

@@ -1,9 +1,11 @@
-ghost use Rattle.std.specs.Prelude.{◌≡◌, ◌+◌, ◌<◌, ◌↔◌, false, None, Some, IfErr, OnOk, IsTrue, is_some, length};
+ghost use Rattle.std.specs.Prelude.{◌≡◌, ◌+◌, ◌<◌, ◌↔◌, ◌++◌, ◌∷◌, [], false, None, Some, IfErr, OnOk, IsTrue, is_some, length};
+ghost use Rattle.account_book.specs.declared.decision.Decision.{Decision};
 ghost use Rattle.batch_intake.specs.Taking.{reader_of};
 ghost use Rattle.batch_runner.specs.Outcome.{Outside, outside};
 ghost use Rattle.batch_runner.specs.Progress.{GoesOn, progress};
 
 use crate::board::{BoardLine, board_line};
+use account_book::Decision;
 use batch_intake::{Halt, Intake};
 use batch_io::{Gate, Sink, Source};
 use batch_listing::{Audit, write_all_of};
@@ -29,6 +31,8 @@ pub(crate) struct Docket {
     closed: bool,
     /// The sections of so many jobs are written.
     written: usize,
+    /// What became of each of these jobs.
+    pub(crate) decisions: Vec<Decision>,
     /// The job that the audit has run itself for the last section.
     audited: Option<u32>,
     /// The line of the office's board, once all sections are written; none where it has no board.
@@ -40,7 +44,7 @@ pub(crate) struct Docket {
 impl Docket {
     /// A docket before the first section. Each account of the audit's book must still have its opening.
     pub(crate) fn new(alloc: Global, intake: Intake, audit: Audit) -> Docket
-        ensures { (result.intake ≡ intake) × (result.audit ≡ audit) × (result.written ≡ 0) × (result.halt ≡ None) }
+        ensures { (result.intake ≡ intake) × (result.audit ≡ audit) × (result.written ≡ 0) × (result.decisions.items ≡ []) × (result.halt ≡ None) }
     {
         Docket {
             alloc,
@@ -50,6 +54,7 @@ impl Docket {
             arrived: 0,
             closed: false,
             written: 0,
+            decisions: Vec::new(alloc),
             audited: None,
             line: None,
             halt: None,
@@ -177,6 +182,17 @@ fn arrive_all<B: OfficeBrand, R: Wait>(
     Ok(())
 }
 
+/// Keeps what became of a job, where it is known.
+fn keep(decisions: &mut Vec<Decision>, decision: Option<Decision>) -> Result<(), AllocError>
+    ensures { (became : Decision) → decision ≡ Some became
+        → OnOk result (decisions.new.items ≡ decisions.old.items ++ became ∷ []) }
+{
+    match decision {
+        Some(decision) => Ok(decisions.push(decision)?),
+        None => Ok(()),
+    }
+}
+
 /// The number of a job that the audit has run.
 fn audited(job: u32, ran: bool) -> Option<u32> {
     if ran { Some(job) } else { None }
@@ -246,6 +262,7 @@ impl<'s, 'k, S: Source, K: Sink> Clerk<'s, 'k, S, K, Docket> {
             .audit
             .section(self.docket.alloc, job, brought, &mut self.docket.desk)?;
         self.docket.audited = audited(job.number, self.docket.audit.reruns() > before);
+        keep(&mut self.docket.decisions, self.docket.audit.decision())?;
         write_all_of(self.sink, section.as_slice())?;
         Ok(())
     }

@@ -1,29 +1,29 @@
-ghost use Rattle.std.specs.Prelude.{◌≡◌, ◌≤◌, ◌+◌, true, List, Option, None, IfErr, IfOk, IfSome, OnErr, OnOk, IsErrOf, is_some, length};
+ghost use Rattle.std.specs.Prelude.{◌≡◌, ◌≤◌, ◌+◌, true, List, Option, None, IfErr, IfOk, IfSome, OnErr, OnOk, IsErrOf, is_some, length, map};
 ghost use Rattle.batch_io.specs.Causes.{Rose};
 ghost use Rattle.deck_reader.specs.declared.batch.Account.{Account};
 ghost use Rattle.deck_reader.specs.Batch.{batch, too_large};
 ghost use Rattle.batch_listing.specs.Tallies.{listing_tally};
 ghost use Rattle.batch_runner.specs.Outcome.{HasHalted, IsCutShort, IsListed, Outside, outside};
 ghost use Rattle.batch_intake.specs.Halts.{IsTooLarge};
-ghost use Rattle.batch_runner.specs.Progress.{HasWritten, IsOpened, IsServed, begun};
-ghost use Rattle.batch_intake.specs.Taking.{StopsFront, stray_of};
+ghost use Rattle.batch_runner.specs.Progress.{HasAll, HasWritten, IsDecided, IsOpened, begun};
+ghost use Rattle.batch_intake.specs.Taking.{StopsFront};
 
 use crate::board::BoardLine;
 use crate::clerk::{Clerk, Docket};
 use crate::nowhere::Nowhere;
 use crate::running::{Staff, run_jobs};
-use account_book::Book;
+use account_book::{Book, Decision};
 use batch_intake::{Front, Halt, Intake, read_front};
 use batch_io::{Gate, MemSource, Sink, Source};
 use batch_listing::{Audit, heading, write_all_of};
 use batch_summary::Tally;
 use crossbeam_utils::CachePadded;
-use deck_reader::{Account, Listed};
+use deck_reader::{Account, Job, Listed};
 use job_queue::FreshQueue;
 use job_runner::Desk;
 use std::alloc::{AllocError, Global};
 use std::marker::Brand;
-use std::sync::Wait;
+use std::sync::{Arc, Wait};
 use std::thread::Threads;
 
 /// What is left behind a listing that was written whole.
@@ -104,14 +104,18 @@ fn with_closing(sections: Tally, closing: &[u8]) -> Result<Tally, AllocError>
 
 /// What is left of a batch behind its last section.
 #[derive(Drop)]
-struct Served {
-    audit: Audit,
+pub(crate) struct Served {
+    pub(crate) audit: Audit,
     stray: u32,
+    pub(crate) jobs: Vec<Arc<Job>>,
+    /// What became of each job.
+    pub(crate) decisions: Vec<Decision>,
+    /// The line of the operator's board, where there was one.
     line: Option<BoardLine>,
 }
 
 /// Reads a batch, runs its jobs, and writes the heading and the section of each job, in order.
-fn write_sections<R: Threads + Wait + Sync, S: Source, K: Sink, G: Gate>(
+pub(crate) fn write_sections<R: Threads + Wait + Sync, S: Source, K: Sink, G: Gate>(
     rt: &R,
     alloc: Global,
     given: Option<Listed<Account>>,
@@ -122,7 +126,7 @@ fn write_sections<R: Threads + Wait + Sync, S: Source, K: Sink, G: Gate>(
     gate: &G,
 ) -> Result<Served, Halt>
     requires few { IfSome given (λ accounts. length accounts ≤ 500) }
-    ensures ok { IfOk result (λ served. IsServed given (outside (S.left src.old) (S.faults src.old) (K.written sink.old) (K.faults sink.old)) (outside (S.left src.new) (S.faults src.new) (K.written sink.new) (K.faults sink.new)) served.audit served.stray) }
+    ensures ok { IfOk result (λ served. IsDecided given (outside (S.left src.old) (S.faults src.old) (K.written sink.old) (K.faults sink.old)) (outside (S.left src.new) (S.faults src.new) (K.written sink.new) (K.faults sink.new)) served.audit served.stray (map (λ j. j.value) served.jobs.items) served.decisions.items) }
     ensures err { IfErr result (λ halt. HasHalted given (outside (S.left src.old) (S.faults src.old) (K.written sink.old) (K.faults sink.old)) (outside (S.left src.new) (S.faults src.new) (K.written sink.new) (K.faults sink.new)) halt) }
     ensures line { IfOk result (λ served. is_some served.line ≡ board) }
 {
@@ -140,11 +144,16 @@ fn write_sections<R: Threads + Wait + Sync, S: Source, K: Sink, G: Gate>(
         rt, alloc, src, sink, intake, book, audit, fresh, board, desks, gate,
     );
     match docket.halt {
-        None => Ok(Served {
-            stray: docket.intake.stray(),
-            audit: docket.audit,
-            line: docket.line,
-        }),
+        None => {
+            let intake = docket.intake;
+            Ok(Served {
+                audit: docket.audit,
+                stray: intake.stray(),
+                jobs: intake.jobs,
+                decisions: docket.decisions,
+                line: docket.line,
+            })
+        }
         Some(halt) => Err(halt),
     }
 }
@@ -199,7 +208,7 @@ fn serve<R: Threads + Wait + Sync, S: Source, K: Sink, G: Gate>(
     requires desks { 1 ≤ length desks.old }
     requires few { length desks.old ≤ 16 }
     ensures all { (given : Option (List Account)) (start : Outside) → HasWritten given start (begun (outside (S.left src.old) (S.faults src.old) (K.written sink.old) (K.faults sink.old)) intake audit) → result.halt ≡ None
-        → IsServed given start (outside (S.left src.new) (S.faults src.new) (K.written sink.new) (K.faults sink.new)) result.audit (stray_of result.intake) }
+        → HasAll given start (outside (S.left src.new) (S.faults src.new) (K.written sink.new) (K.faults sink.new)) result }
     ensures some { (given : Option (List Account)) (start : Outside) → HasWritten given start (begun (outside (S.left src.old) (S.faults src.old) (K.written sink.old) (K.faults sink.old)) intake audit)
         → IfSome result.halt (λ halt. HasHalted given start (outside (S.left src.new) (S.faults src.new) (K.written sink.new) (K.faults sink.new)) halt) }
     ensures line { result.halt ≡ None → is_some result.line ≡ board }

@@ -1,9 +1,8 @@
-ghost use Rattle.std.specs.Prelude.{◌≡◌, ◌≤◌, List, Option, None, IfOk, IfSome, [], is_some, length};
+ghost use Rattle.std.specs.Prelude.{◌≡◌, ◌≤◌, List, Option, [], None, IfOk, IfSome, is_some, length};
 ghost use Rattle.deck_reader.specs.declared.batch.Account.{Account};
 ghost use Rattle.crossbeam_queue.specs.Passes.{view};
-ghost use Rattle.batch_intake.specs.Taking.{stray_of};
 ghost use Rattle.batch_runner.specs.Outcome.{HasHalted, Outside, outside};
-ghost use Rattle.batch_runner.specs.Progress.{GoesOn, HasWritten, IsServed, begun, progress};
+ghost use Rattle.batch_runner.specs.Progress.{GoesOn, HasAll, HasWritten, begun, progress};
 
 use crate::clerk::{Clerk, Docket};
 use account_book::Book;
@@ -90,9 +89,10 @@ pub(crate) fn run_jobs<
     requires few { length desks.old ≤ 16 }
     requires free { clerk.docket.halt ≡ None }
     requires none { clerk.docket.written ≡ 0 }
+    requires undecided { clerk.docket.decisions.items ≡ [] }
     ensures same_ports { (result.src.ghost_name ≡ clerk.entry.src.ghost_name) × (result.sink.ghost_name ≡ clerk.entry.sink.ghost_name) }
     ensures all { (given : Option (List Account)) (start : Outside) → HasWritten given start (begun (outside (S.left clerk.entry.src.now) (S.faults clerk.entry.src.now) (K.written clerk.entry.sink.now) (K.faults clerk.entry.sink.now)) clerk.entry.docket.intake clerk.entry.docket.audit)
-        → result.docket.halt ≡ None → IsServed given start (outside (S.left result.src.now) (S.faults result.src.now) (K.written result.sink.now) (K.faults result.sink.now)) result.docket.audit (stray_of result.docket.intake) }
+        → result.docket.halt ≡ None → HasAll given start (outside (S.left result.src.now) (S.faults result.src.now) (K.written result.sink.now) (K.faults result.sink.now)) result.docket }
     ensures some { (given : Option (List Account)) (start : Outside) → HasWritten given start (begun (outside (S.left clerk.entry.src.now) (S.faults clerk.entry.src.now) (K.written clerk.entry.sink.now) (K.faults clerk.entry.sink.now)) clerk.entry.docket.intake clerk.entry.docket.audit)
         → IfSome result.docket.halt (λ halt. HasHalted given start (outside (S.left result.src.now) (S.faults result.src.now) (K.written result.sink.now) (K.faults result.sink.now)) halt) }
     ensures line { result.docket.halt ≡ None → is_some result.docket.line ≡ board }

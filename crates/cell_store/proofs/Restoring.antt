@@ -2,7 +2,7 @@
 use Rattle.std.proofs.Common.{◌≡◌, ℕ, suc, ◌+◌, ◌-◌, ◌<◌, ◌≤◌, ◌++◌, List, [], ◌∷◌, length, map, take, min, Option, Some, None, ◌≢◌, get_or, set, zero, add-one, refl, sym, ap, ◌∙◌, subst, arith}
 use Rattle.std.specs.Prelude.{is_some, slice_get, slice_set, slice_index}
 use Rattle.std.proofs.lemmas.List.{set-set, set-get_or, map-set, get_or-set_other, length-map, length-set, length-take, length_push, take_all, take-append-le, take-take}
-use Rattle.std.proofs.lemmas.Option.{get_or_from_slice_get}
+use Rattle.std.proofs.lemmas.Option.{get_or_from_slice_get, slice_get-get_or}
 use Rattle.cell_store.specs.declared.entries.Frame.{Frame}
 use Rattle.cell_store.specs.declared.display.Shown.{Shown}
 use Rattle.cell_store.specs.declared.display.Entering.{Entering}
@@ -73,16 +73,6 @@ module _ (frames : List Frame) (f : Frame) (entered : List Entering) (shown : Li
       (subst (λ (xs : List Shown). Restores (frames ++ f ∷ []) more lower s.text xs level) back
       (restores_same frames (frames ++ f ∷ []) entered more n torn lower frames_same (λ k less. get_set_other entered n k own (λ e. omega (arith, e, less))) level_same long still_torn s.text shown level s.display.there s.restores))
 
--- ---- undoing
-
-pub undoing : (frames : List Frame) (entered : List Entering) (torn n : ℕ) (e : Entering) (shown : List Shown) (level : ℕ) → AreLevels frames (levels_of entered) → torn ≤ n → slice_get entered n ≡ Some e →
-    Restores frames entered torn (Some n) shown level → Standing frames entered (slice_set shown level e.replaced) e.before torn
-undoing frames entered torn n e shown level are whole is (ends below) = absurd (omega (arith, whole, below))
-undoing frames entered torn n e shown level are whole is (undone own before at d rest) =
-    let same : own ≡ e = cc (sym at ∙ is) in
-    subst (λ (x : Entering). Standing frames entered (slice_set shown level x.replaced) x.before torn) same
-    (record { text = before; display = among_all frames (levels_of entered) are n before (slice_set shown level own.replaced) own.before d; restores = rest })
-
 -- ---- fewer
 
 module _ (frames : List Frame) (entered : List Entering) (shown : List Shown) (level torn n : ℕ) where
@@ -94,6 +84,24 @@ module _ (frames : List Frame) (entered : List Entering) (shown : List Shown) (l
   fewer_restores text below d r =
       let many = d.rising.many in
       restores_same frames (take n frames) entered entered (min n (length frames)) torn torn (λ k less. take-take k n frames (omega (arith, less))) (λ k less. refl) (λ k less. refl) (omega (arith, many)) (λ t b torn_below. torn_below) text shown level (below_min text below d.there) r
+
+below_taken : (t : Option ℕ) (n : ℕ) (frames : List Frame) → IsBelow t (length (take n frames)) → IsBelow t n
+below_taken None n frames below = tt
+below_taken (Some k) n frames below = omega (arith, below, length-take n frames)
+
+-- ---- undoing
+
+-- among the frames from then, and among all
+undoing : (frames : List Frame) (entered : List Entering) (torn n : ℕ) (e : Entering) (shown : List Shown) (level : ℕ) → AreLevels frames (levels_of entered) → torn ≤ n → slice_get entered n ≡ Some e → Restores frames entered torn (Some n) shown level →
+    (Standing (take n frames) entered (slice_set shown level e.replaced) e.before torn) × (Standing frames entered (slice_set shown level e.replaced) e.before torn)
+undoing frames entered torn n e shown level are whole is (ends below) = absurd (omega (arith, whole, below))
+undoing frames entered torn n e shown level are whole is (undone own before at d rest) =
+    let same : own ≡ e = cc (sym at ∙ is) in
+    let back : List Shown = slice_set shown level own.replaced in
+    let all = among_all frames (levels_of entered) are n before back own.before d in
+    let below : IsBelow before n = below_taken before n frames d.there in
+    subst (λ (x : Entering). (Standing (take n frames) entered (slice_set shown level x.replaced) x.before torn) × (Standing frames entered (slice_set shown level x.replaced) x.before torn)) same
+    (record { text = before; display = d; restores = fewer_restores frames entered back own.before torn n before below all rest }, record { text = before; display = all; restores = rest })
 
 -- ---- as the code has it
 
@@ -112,17 +120,24 @@ not_newest (Some k) n below apart = omega (arith, below, apart)
 below_none : (t : Option ℕ) (n : ℕ) → t ≡ Some n → IsBelow t n → ⊥
 below_none t n e below = let less : n < n = subst (λ (u : Option ℕ). IsBelow u n) e below in omega (arith, less)
 
-below_taken : (t : Option ℕ) (n : ℕ) (frames : List Frame) → IsBelow t (length (take n frames)) → IsBelow t n
-below_taken None n frames below = tt
-below_taken (Some k) n frames below = omega (arith, below, length-take n frames)
-
 -- the text that stands at the innermost level
-pub innermost_is : (frames : List Frame) (text : Option ℕ) (levels : List ℕ) (shown : List Shown) (level n : ℕ) → IsDisplay frames text levels shown level → n < 4294967295 → HasText shown level level (Some n) → text ≡ Some n
+innermost_is : (frames : List Frame) (text : Option ℕ) (levels : List ℕ) (shown : List Shown) (level n : ℕ) → IsDisplay frames text levels shown level → n < 4294967295 → HasText shown level level (Some n) → text ≡ Some n
 innermost_is frames text levels shown level n d few has =
     let own : level ≡ level - 0 = omega arith in
     let at : slice_get shown level ≡ Some (shown_of frames text) = ap (λ k. slice_get shown k) own ∙ d.each 0 (omega arith) in
     let e : Some (shown_of frames text).text ≡ Some n = sym (ap (λ o. option_map (λ (y : Shown). y.text) o) at) ∙ has.1 in
     is_text text n few (sym (text_shown frames text) ∙ cc e)
+
+-- the innermost text is undone
+pub innermost_undone : (frames : List Frame) (entered : List Entering) (torn n : ℕ) (e : Entering) (shown : List Shown) (level : ℕ) (s : Standing frames entered shown level torn) → n < 4294967295 → torn ≤ n → HasText shown level level (Some n) → e ≡ get_or entered n e →
+    (Standing (take n frames) entered (slice_set shown level e.replaced) e.before torn) × (Standing frames entered (slice_set shown level e.replaced) e.before torn)
+innermost_undone frames entered torn n e shown level s few whole has read =
+    let text : s.text ≡ Some n = innermost_is frames s.text (levels_of entered) shown level n s.display few has in
+    let there : n < length frames = subst (λ (t : Option ℕ). IsBelow t (length frames)) text s.display.there in
+    let many = s.display.rising.many in
+    let as_many = length-map entered (λ (x : Entering). x.level) in
+    let is : slice_get entered n ≡ Some e = slice_get-get_or entered n e (omega (arith, there, many, as_many)) ∙ ap (λ (x : Entering). Some x) (sym read) in
+    undoing frames entered torn n e shown level s.display.rising whole is (subst (λ (t : Option ℕ). Restores frames entered torn t shown level) text s.restores)
 
 -- at first
 pub at_first : (entered : List Entering) (shown : List Shown) (torn : ℕ) → slice_get shown 0 ≡ Some (record { text = 4294967295; start = 0 }) → Displayed [] None entered shown 0 torn

@@ -1,4 +1,4 @@
-ghost use Rattle.std.specs.Prelude.{◌≡◌, ◌≤◌, ◌<◌, ◌+◌, ◌-◌, ◌++◌, ◌∷◌, ◌↔◌, ◌⊎◌, ℕ, List, [], Option, Some, None, IfOk, OnOk, IsTrue, length, take, vec_capacity};
+ghost use Rattle.std.specs.Prelude.{◌≡◌, ◌≤◌, ◌<◌, ◌+◌, ◌-◌, ◌++◌, ◌∷◌, ◌↔◌, ◌⊎◌, ℕ, List, [], Option, Some, None, IfOk, IfSome, OnOk, IsTrue, length, take, vec_capacity};
 ghost use Rattle.cell_store.specs.declared.entries.Frame.{Frame};
 ghost use Rattle.cell_store.specs.Links.{outwards};
 ghost use Rattle.cell_store.specs.Displays.{IsBelow, HasText, level_in, levels_of, IsDisplay, IsSomeDisplay, Standing, Displayed};
@@ -109,9 +109,35 @@ impl Display {
         self.level = 0;
     }
 
-    /// A text runs whose frame is to be the newest.
+    /// A text runs whose frame is to be the newest. Where it is told, the text round it is so many links out from the one that
+    /// runs.
+    #[inline(always)]
+    pub fn enter_by(
+        &mut self,
+        frames: &[Frame],
+        text: Option<u32>,
+        links: Option<u32>,
+        frame: &Frame,
+    )
+        requires stands { Displayed frames.now text self.old.entered.items self.old.shown.items self.old.level self.old.torn }
+        requires way { IfSome links (λ n. outwards frames.now text n ≡ Some frame.now.link) }
+        requires link { IsBelow frame.now.link (length frames.now) }
+        requires few { length frames.now < 4294967295 }
+        requires entered { length frames.now < length self.old.entered.items }
+        requires places { length frames.now + 1 < length self.old.shown.items }
+        ensures shown { Displayed (frames.now ++ frame.now ∷ []) (Some (length frames.now)) self.new.entered.items self.new.shown.items self.new.level self.new.torn }
+        ensures entered { length self.new.entered.items ≡ length self.old.entered.items }
+        ensures places { length self.new.shown.items ≡ length self.old.shown.items }
+    {
+        match links {
+            Some(links) => self.enter_within(frames, text, links, frame),
+            None => self.enter(frames, frame),
+        }
+    }
+
+    /// A text runs whose frame is to be the newest, wherever the text round it stands.
     #[inline(never)]
-    pub fn enter(&mut self, frames: &[Frame], frame: &Frame)
+    fn enter(&mut self, frames: &[Frame], frame: &Frame)
         requires stands { Standing frames.now self.old.entered.items self.old.shown.items self.old.level self.old.torn }
         requires link { IsBelow frame.now.link (length frames.now) }
         requires few { length frames.now < 4294967295 }
@@ -138,7 +164,7 @@ impl Display {
 
     /// The same, where the text round it is so many links out from the one that runs.
     #[inline(always)]
-    pub fn enter_within(&mut self, frames: &[Frame], _text: Option<u32>, links: u32, frame: &Frame)
+    fn enter_within(&mut self, frames: &[Frame], _text: Option<u32>, links: u32, frame: &Frame)
         requires stands { Displayed frames.now _text self.old.entered.items self.old.shown.items self.old.level self.old.torn }
         requires way { outwards frames.now _text links ≡ Some frame.now.link }
         requires link { IsBelow frame.now.link (length frames.now) }
@@ -197,6 +223,40 @@ impl Display {
         self.turn(frames, text);
     }
 
+    /// The newest text, which is the one that runs, is given back, and a text goes on.
+    #[inline(always)]
+    pub fn give_back(&mut self, frames: &[Frame], newest: u32, text: Option<u32>)
+        requires runs { Displayed frames.now (Some newest) self.old.entered.items self.old.shown.items self.old.level self.old.torn }
+        requires newest { newest + 1 ≡ length frames.now }
+        requires few { length frames.now ≤ 4294967295 }
+        requires places { length frames.now < length self.old.shown.items }
+        ensures shown { Displayed (take newest frames.now) text self.new.entered.items self.new.shown.items self.new.level self.new.torn }
+        ensures entered { self.new.entered ≡ self.old.entered }
+        ensures places { length self.new.shown.items ≡ length self.old.shown.items }
+    {
+        if newest < self.torn {
+            self.give_back_torn(frames, text);
+            return;
+        }
+        self.undo(frames, newest);
+        self.turn(&frames[..newest as usize], text);
+    }
+
+    /// The newest text is given back, and a text goes on, whatever the newest replaced.
+    #[inline(never)]
+    fn give_back_torn(&mut self, frames: &[Frame], text: Option<u32>)
+        requires stands { Standing frames.now self.old.entered.items self.old.shown.items self.old.level self.old.torn }
+        requires one { 0 < length frames.now }
+        requires few { length frames.now ≤ 4294967295 }
+        requires places { length frames.now < length self.old.shown.items }
+        ensures shown { Displayed (take (length frames.now - 1) frames.now) text self.new.entered.items self.new.shown.items self.new.level self.new.torn }
+        ensures entered { self.new.entered ≡ self.old.entered }
+        ensures places { length self.new.shown.items ≡ length self.old.shown.items }
+    {
+        self.go_on(frames, text);
+        self.leave(frames);
+    }
+
     /// All frames but the first so many are given back. Where the innermost text goes with them, the program is from now on.
     #[inline(always)]
     pub fn cut(&mut self, frames: &[Frame], left: u32)
@@ -234,6 +294,7 @@ impl Display {
         requires frame { innermost < 4294967295 }
         requires whole { self.old.torn ≤ innermost }
         ensures stands { Standing frames.now self.new.entered.items self.new.shown.items self.new.level self.new.torn }
+        ensures below { Standing (take innermost frames.now) self.new.entered.items self.new.shown.items self.new.level self.new.torn }
         ensures entered { self.new.entered ≡ self.old.entered }
         ensures places { length self.new.shown.items ≡ length self.old.shown.items }
     {

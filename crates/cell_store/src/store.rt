@@ -5,7 +5,7 @@ ghost use Rattle.cell_store.specs.Words.{word_of, is_wide};
 ghost use Rattle.cell_store.specs.Held.{word_cell};
 ghost use Rattle.value_ops.specs.Strings.{filled};
 ghost use Rattle.cell_store.specs.Links.{outwards, is_below, start_at, displayed};
-ghost use Rattle.cell_store.specs.Stores.{empty, cells_allowed, with_cells, with_cell_at, array_allowed, new_array, array_cells, entered, text_allowed, newest, left, cut_back};
+ghost use Rattle.cell_store.specs.Stores.{empty, cells_allowed, with_cells, with_cell_at, array_allowed, new_array, array_cells, entered, has_room, text_allowed, newest, left, cut_back};
 
 use crate::cells::{Wide, Word};
 use crate::descriptor::Descriptor;
@@ -408,54 +408,10 @@ impl Store {
         ensures entered { OnOk result (self.new ≡ entered frame mark self.old) }
         ensures unchanged { OnErr result (self.new ≡ self.old) }
     {
-        let depth = u32::from(frame.counts);
-        if frame.counts && self.depth >= MOST_DEPTH {
-            return Err(Refusal::Limit(Limit::Depth));
-        }
-        let number = self.answers.len();
-        if number >= self.answers.room()
-            || self.entries.len() >= self.entry_room as usize
-            || frame.link.is_some_and(|link| link >= number)
-        {
-            return Err(Refusal::NoRoom);
-        }
-        self.display.enter(&self.frames, &frame);
-        self.entries.push_reserved(mark);
-        self.frames.push_reserved(frame);
-        self.answers.push(Word::Nothing);
-        self.current = Some(number);
-        self.depth += depth;
-        Ok(())
+        self.enter_by(None, frame, mark)
     }
 
-    /// The same, where the text round it is so many links out from the one that runs: it is found without a look.
-    #[inline(always)]
-    pub fn enter_within(&mut self, links: u32, frame: Frame, mark: Entry) -> Result<(), Refusal>
-        requires way { outwards self.old.frames self.old.current links ≡ Some frame.link }
-        requires below { (frame.counts && nat_le 2000 self.old.depth) ≡ false → is_below frame.link (length self.old.frames) ≡ true }
-        ensures answer { result ≡ text_allowed frame self.old }
-        ensures entered { OnOk result (self.new ≡ entered frame mark self.old) }
-        ensures unchanged { OnErr result (self.new ≡ self.old) }
-    {
-        let depth = u32::from(frame.counts);
-        if frame.counts && self.depth >= MOST_DEPTH {
-            return Err(Refusal::Limit(Limit::Depth));
-        }
-        let number = self.answers.len();
-        if number >= self.answers.room() || self.entries.len() >= self.entry_room as usize {
-            return Err(Refusal::NoRoom);
-        }
-        self.display
-            .enter_within(&self.frames, self.current, links, &frame);
-        self.entries.push_reserved(mark);
-        self.frames.push_reserved(frame);
-        self.answers.push(Word::Nothing);
-        self.current = Some(number);
-        self.depth += depth;
-        Ok(())
-    }
-
-    /// The same, whichever way the text round it is found: by so many links from the one that runs, where that is told.
+    /// The same. Where it is told, the text round it is so many links out from the one that runs, and is found without a look.
     #[inline(always)]
     pub fn enter_by(&mut self, links: Option<u32>, frame: Frame, mark: Entry) -> Result<(), Refusal>
         requires way { IfSome links (λ n. outwards self.old.frames self.old.current n ≡ Some frame.link) }
@@ -464,10 +420,34 @@ impl Store {
         ensures entered { OnOk result (self.new ≡ entered frame mark self.old) }
         ensures unchanged { OnErr result (self.new ≡ self.old) }
     {
-        match links {
-            Some(links) => self.enter_within(links, frame, mark),
-            None => self.enter(frame, mark),
+        let depth = u32::from(frame.counts);
+        if frame.counts && self.depth >= MOST_DEPTH {
+            return Err(Refusal::Limit(Limit::Depth));
         }
+        if !self.has_room_for(links, frame.link) {
+            return Err(Refusal::NoRoom);
+        }
+        self.display
+            .enter_by(&self.frames, self.current, links, &frame);
+        self.current = Some(self.answers.len());
+        self.entries.push_reserved(mark);
+        self.frames.push_reserved(frame);
+        self.answers.push(Word::Nothing);
+        self.depth += depth;
+        Ok(())
+    }
+
+    /// Whether there is room for a text more, and its link names the program or a text under way, as it does where it is told
+    /// how many links out that is.
+    #[inline(always)]
+    fn has_room_for(&self, links: Option<u32>, link: Option<u32>) -> bool
+        requires { IfSome links (λ n. is_below link (length self.now.frames) ≡ true) }
+        ensures { result ≡ (has_room self.now && is_below link (length self.now.frames)) }
+    {
+        let number = self.answers.len();
+        number < self.answers.room()
+            && self.entries.len() < self.entry_room as usize
+            && (links.is_some() || !link.is_some_and(|link| link >= number))
     }
 
     /// Gives back all of the newest text: its frame, its entries and its cells.
@@ -483,6 +463,24 @@ impl Store {
         self.display.leave(&self.frames);
         self.frames.truncate(newest as usize);
         self.answers.cut(newest);
+        self.depth = self.depth.saturating_sub(u32::from(frame.counts));
+    }
+
+    /// The newest text, which is the one that runs, is given back with all of its own, and the text to return to goes on.
+    #[inline(always)]
+    pub fn give_back(&mut self)
+        requires one { 0 < length self.old.frames }
+        requires runs { self.old.current ≡ Some (length self.old.frames - 1) }
+        ensures { IfSome (newest self.old) (λ frame. self.new ≡ record (left frame self.old) { current = frame.text }) }
+    {
+        let newest = self.answers.len() - 1;
+        let frame = self.frames[newest as usize];
+        self.cells.cut(frame.base);
+        self.entries.truncate(frame.start as usize);
+        self.display.give_back(&self.frames, newest, frame.text);
+        self.frames.truncate(newest as usize);
+        self.answers.cut(newest);
+        self.current = frame.text;
         self.depth = self.depth.saturating_sub(u32::from(frame.counts));
     }
 

@@ -18,10 +18,11 @@ use Rattle.clap.specs.declared.parser.matches.Found.{Found}
 use Rattle.command_words.specs.declared.order.Order.{Order}
 use Rattle.std.specs.Char.{is_ascii_digit}
 use Rattle.std.specs.Str.Parse.{digits_value}
-use Rattle.command_words.specs.Form.{Use, apart, joined, flag, flags, has_flag, is_among, is_known, name_of, options, run_from, make_from, IsOrder, dashed, has_dashes, number_in, number_or, order_from, order_of, value_in, value_of, words_of}
+use Rattle.deck_reader.specs.Forms as forms
+use Rattle.command_words.specs.Form.{Use, apart, joined, flag, flags, has_flag, is_among, is_known, name_of, options, run_from, make_from, statement_from, IsOrder, dashed, has_dashes, number_in, number_or, order_from, order_of, value_in, value_of, words_of}
 use Rattle.command_words.proofs.Fresh.{and_first, are_known, both_true, and_second, not_true, is_fresh, has_use, fresh_by, fresh_is_known, fresh_is_once}
 use Rattle.command_words.proofs.Walked as walked
-use Rattle.command_words.proofs.Walked.{Finds, FindsFlag, finds_accounts, finds_board, finds_jobs, finds_make, finds_queue, finds_workers, not_dashes, same}
+use Rattle.command_words.proofs.Walked.{Finds, FindsFlag, finds_accounts, finds_board, finds_jobs, finds_make, finds_queue, finds_statement, finds_workers, not_dashes, same}
 use Rattle.command_words.proofs.Whole.{IsRead, accounts, are_plain, is_plain, known_finds, known_flag, is_hyphen, plain_word_is, row_of, taken_is_read, spelt_is_taken, text_of, use_row, with_flags}
 
 -- ---- the values of options
@@ -199,6 +200,21 @@ number_plain low high n (x ∷ xs) e = go (x == 45) refl
         let bad : is_ascii_digit 45 ≡ true = rw (is_hyphen x h) at digit in
         cc
 
+name_plain : (v n : Text) → forms.name_of v ≡ Some n → is_plain v ≡ true
+name_plain [] n e = refl
+name_plain (x ∷ xs) n e = go (x == 45) refl
+  where
+    named : (b : Bool) → (if b then Some (forms.folded (x ∷ xs)) else None) ≡ Some n → b ≡ true
+    named true e = refl
+    named false e = cc
+
+    go : (b : Bool) → (x == 45) ≡ b → is_plain (x ∷ xs) ≡ true
+    go false h = rw h refl
+    go true h =
+        let letter : forms.is_letter x ≡ true = and_first _ _ (named (forms.is_name (x ∷ xs)) e) in
+        let bad : forms.is_letter 45 ≡ true = rw (is_hyphen x h) at letter in
+        cc
+
 plain_or : (default low high n : ℕ) (t : Option Text) → number_or default low high t ≡ Some n → (v : Text) → t ≡ Some v → is_plain v ≡ true
 plain_or default low high n None e v h = cc
 plain_or default low high n (Some w) e v h = number_plain low high n v (rw (ap (λ (o : Option Text). unwrap_or o v) h) at e)
@@ -214,6 +230,17 @@ two k l (Some x) (Some y) o e = record { x = x; y = y; is_x = refl; is_y = refl 
 two k l None b o e = cc
 two k l (Some x) None o e = cc
 
+record Named (n : Option Text) (a b : Option ℕ) : Type 0 where
+  name : Text
+  is_name : n ≡ Some name
+  both : Two a b
+
+named : (n : Option Text) (a b : Option ℕ) (o : Order) → statement_from n a b ≡ Some o → Named n a b
+named (Some name) (Some x) (Some y) o e = record { name = name; is_name = refl; both = record { x = x; y = y; is_x = refl; is_y = refl } }
+named None a b o e = cc
+named (Some name) None b o e = cc
+named (Some name) (Some x) None o e = cc
+
 record Four (a b c d : Option ℕ) : Type 0 where
   first : Two a b
   second : Two c d
@@ -225,44 +252,58 @@ four (Some x) None c d o e = cc
 four (Some x) (Some y) None d o e = cc
 four (Some x) (Some y) (Some z) None o e = cc
 
-record Plains (m j w q : Option Text) : Type 0 where
+record Plains (m j s w q : Option Text) : Type 0 where
   make : (v : Text) → m ≡ Some v → is_plain v ≡ true
   jobs : (v : Text) → j ≡ Some v → is_plain v ≡ true
+  statement : (v : Text) → s ≡ Some v → is_plain v ≡ true
   workers : (v : Text) → w ≡ Some v → is_plain v ≡ true
   queue : (v : Text) → q ≡ Some v → is_plain v ≡ true
 
-plains : (m j : Option Text) (k l : Bool) (w q : Option Text) (o : Order) → order_from m j k l (number_or 4 1 16 w) (number_or 8 1 64 q) ≡ Some o → Plains m j w q
-plains None None k l w q o e =
+-- the text of a name is plain
+plain_name : (s n : Text) → forms.name_of s ≡ Some n → (v : Text) → Some s ≡ Some v → is_plain v ≡ true
+plain_name s n e v h = name_plain v n (rw (ap (λ (o : Option Text). unwrap_or o v) h) at e)
+
+plains : (m j s : Option Text) (k l : Bool) (w q : Option Text) (o : Order) → order_from m j s k l (number_or 4 1 16 w) (number_or 8 1 64 q) ≡ Some o → Plains m j s w q
+plains None None None k l w q o e =
     let t = two k l (number_or 4 1 16 w) (number_or 8 1 64 q) o e in
-    record { make = λ v h. cc; jobs = λ v h. cc; workers = plain_or 4 1 16 t.x w t.is_x; queue = plain_or 8 1 64 t.y q t.is_y }
-plains (Some m) (Some j) false false w q o e =
+    record { make = λ v h. cc; jobs = λ v h. cc; statement = λ v h. cc; workers = plain_or 4 1 16 t.x w t.is_x; queue = plain_or 8 1 64 t.y q t.is_y }
+plains None None (Some s) false false w q o e =
+    let t = named (forms.name_of s) (number_or 4 1 16 w) (number_or 8 1 64 q) o e in
+    record { make = λ v h. cc; jobs = λ v h. cc; statement = plain_name s t.name t.is_name; workers = plain_or 4 1 16 t.both.x w t.both.is_x; queue = plain_or 8 1 64 t.both.y q t.both.is_y }
+plains None None (Some s) true l w q o e = cc
+plains None None (Some s) false true w q o e = cc
+plains (Some m) (Some j) None false false w q o e =
     let t = four (number_in 0 4294967295 m) (number_in 1 2000 j) (number_or 4 1 16 w) (number_or 8 1 64 q) o e in
     record {
       make = plain_or 0 0 4294967295 t.first.x (Some m) t.first.is_x;
       jobs = plain_or 0 1 2000 t.first.y (Some j) t.first.is_y;
+      statement = λ v h. cc;
       workers = plain_or 4 1 16 t.second.x w t.second.is_x;
       queue = plain_or 8 1 64 t.second.y q t.second.is_y;
     }
-plains (Some m) (Some j) true l w q o e = cc
-plains (Some m) (Some j) false true w q o e = cc
-plains None (Some j) k l w q o e = cc
-plains (Some m) None k l w q o e = cc
+plains (Some m) (Some j) None true l w q o e = cc
+plains (Some m) (Some j) None false true w q o e = cc
+plains (Some m) (Some j) (Some s) k l w q o e = cc
+plains None (Some j) s k l w q o e = cc
+plains (Some m) None s k l w q o e = cc
 
 order_plain : (us : List Use) (o : Order) → order_of us ≡ Some o → (n v : Text) → Finds n → value_of n us ≡ Some v → is_plain v ≡ true
-order_plain us o e n v f h = go (bytes_eq (codes "workers") n) (bytes_eq (codes "queue") n) (bytes_eq (codes "make") n) (bytes_eq (codes "jobs") n) refl refl refl refl
+order_plain us o e n v f h = go (bytes_eq (codes "workers") n) (bytes_eq (codes "queue") n) (bytes_eq (codes "make") n) (bytes_eq (codes "jobs") n) (bytes_eq (codes "statement") n) refl refl refl refl refl
   where
-    p : Plains (value_of (codes "make") us) (value_of (codes "jobs") us) (value_of (codes "workers") us) (value_of (codes "queue") us)
-    p = plains _ _ (has_flag (codes "accounts") us) (has_flag (codes "board") us) _ _ o e
+    p : Plains (value_of (codes "make") us) (value_of (codes "jobs") us) (value_of (codes "statement") us) (value_of (codes "workers") us) (value_of (codes "queue") us)
+    p = plains _ _ _ (has_flag (codes "accounts") us) (has_flag (codes "board") us) _ _ o e
 
     at : (m : Text) → bytes_eq m n ≡ true → value_of m us ≡ Some v
     at m s = ap (λ k. value_of k us) ((bytes_eq-Decides m n).0 s) ∙ h
 
-    go : (a b c d : Bool) → bytes_eq (codes "workers") n ≡ a → bytes_eq (codes "queue") n ≡ b → bytes_eq (codes "make") n ≡ c → bytes_eq (codes "jobs") n ≡ d → is_plain v ≡ true
-    go true b c d ea eb ec ed = p.workers v (at (codes "workers") ea)
-    go false true c d ea eb ec ed = p.queue v (at (codes "queue") eb)
-    go false false true d ea eb ec ed = p.make v (at (codes "make") ec)
-    go false false false true ea eb ec ed = p.jobs v (at (codes "jobs") ed)
-    go false false false false ea eb ec ed = let bad : false ≡ true = rw (ea, eb, ec, ed) at f.is_option in cc
+    go : (a b c d s : Bool) → bytes_eq (codes "workers") n ≡ a → bytes_eq (codes "queue") n ≡ b → bytes_eq (codes "make") n ≡ c → bytes_eq (codes "jobs") n ≡ d
+        → bytes_eq (codes "statement") n ≡ s → is_plain v ≡ true
+    go true b c d s ea eb ec ed es = p.workers v (at (codes "workers") ea)
+    go false true c d s ea eb ec ed es = p.queue v (at (codes "queue") eb)
+    go false false true d s ea eb ec ed es = p.make v (at (codes "make") ec)
+    go false false false true s ea eb ec ed es = p.jobs v (at (codes "jobs") ed)
+    go false false false false true ea eb ec ed es = p.statement v (at (codes "statement") es)
+    go false false false false false ea eb ec ed es = let bad : false ≡ true = rw (ea, eb, ec, ed, es) at f.is_option in cc
 
 no_dashes_one : (u : Use) (rest : List Use) → is_known u ≡ true → is_plain (text_of u) ≡ true → has_dashes (words_of rest) ≡ false → has_dashes (words_of (u ∷ rest)) ≡ false
 no_dashes_one (joined n v) rest known plain rec = rw (not_dashes (dashed (n ++ 61 ∷ v)) n (Some v) ((known_finds n known).joined v)) rec
@@ -294,7 +335,8 @@ abbrev pub flag_given : List Text → Text → Bool
 flag_given words name = is_true (one_of name (matches_of monitor_app words))
 
 abbrev pub order_given : List Text → Option Order
-order_given words = order_from (given words (codes "make")) (given words (codes "jobs")) (flag_given words (codes "accounts")) (flag_given words (codes "board"))
+order_given words = order_from (given words (codes "make")) (given words (codes "jobs")) (given words (codes "statement"))
+    (flag_given words (codes "accounts")) (flag_given words (codes "board"))
     (number_or 4 1 16 (given words (codes "workers"))) (number_or 8 1 64 (given words (codes "queue")))
 
 order_by_rows : (words : List Text) (us : List Use) → are_known us ≡ true → matches_of monitor_app words ≡ with_flags (map row_of us) → order_given words ≡ order_of us
@@ -306,6 +348,7 @@ order_by_rows words us known e =
     rw (
       is (codes "make") finds_make refl refl,
       is (codes "jobs") finds_jobs refl refl,
+      is (codes "statement") finds_statement refl refl,
       is (codes "workers") finds_workers refl refl,
       is (codes "queue") finds_queue refl refl,
       flagged (codes "accounts") accounts_word,
@@ -329,13 +372,15 @@ given_is_order words o d e g =
       says = sym (order_by_rows words r.uses (fresh_is_known r.uses r.fresh) r.rows) ∙ g;
     }
 
-pub assembled : (words : List Text) (m j w q : Option Text) (k l : Bool) (workers queue : Option ℕ) (r : Option Order)
-    → m ≡ given words (codes "make") → j ≡ given words (codes "jobs") → w ≡ given words (codes "workers") → q ≡ given words (codes "queue") → k ≡ flag_given words (codes "accounts") → l ≡ flag_given words (codes "board")
-    → workers ≡ number_or 4 1 16 w → queue ≡ number_or 8 1 64 q → r ≡ order_from m j k l workers queue → r ≡ order_given words
-assembled words m j w q k l workers queue r em ej ew eq ek el eworkers equeue e =
-    e ∙ ap₂ (λ a b. order_from a b k l workers queue) em ej
-    ∙ ap₂ (λ a b. order_from (given words (codes "make")) (given words (codes "jobs")) a b workers queue) ek el
-    ∙ ap₂ (order_from (given words (codes "make")) (given words (codes "jobs")) (flag_given words (codes "accounts")) (flag_given words (codes "board"))) (eworkers ∙ ap (number_or 4 1 16) ew) (equeue ∙ ap (number_or 8 1 64) eq)
+pub assembled : (words : List Text) (m j s w q : Option Text) (k l : Bool) (workers queue : Option ℕ) (r : Option Order)
+    → m ≡ given words (codes "make") → j ≡ given words (codes "jobs") → s ≡ given words (codes "statement") → w ≡ given words (codes "workers") → q ≡ given words (codes "queue")
+    → k ≡ flag_given words (codes "accounts") → l ≡ flag_given words (codes "board")
+    → workers ≡ number_or 4 1 16 w → queue ≡ number_or 8 1 64 q → r ≡ order_from m j s k l workers queue → r ≡ order_given words
+assembled words m j s w q k l workers queue r em ej es ew eq ek el eworkers equeue e =
+    e ∙ ap₂ (λ a b. order_from a b s k l workers queue) em ej
+    ∙ ap (λ a. order_from (given words (codes "make")) (given words (codes "jobs")) a k l workers queue) es
+    ∙ ap₂ (λ a b. order_from (given words (codes "make")) (given words (codes "jobs")) (given words (codes "statement")) a b workers queue) ek el
+    ∙ ap₂ (order_from (given words (codes "make")) (given words (codes "jobs")) (given words (codes "statement")) (flag_given words (codes "accounts")) (flag_given words (codes "board"))) (eworkers ∙ ap (number_or 4 1 16) ew) (equeue ∙ ap (number_or 8 1 64) eq)
 
 -- what `get_flag` answers
 flag_is : (name : Text) → HasWord name → (f : Found) (words : List Text) (answer : Bool) → has_dashes words ≡ false → fault_of monitor_app words ≡ [] → rows_of f ≡ matches_of monitor_app words

@@ -56,6 +56,9 @@ finds_make = record { long = refl; id = refl; is_option = refl; is_no_flag = ref
 pub finds_jobs : Finds (codes "jobs")
 finds_jobs = record { long = refl; id = refl; is_option = refl; is_no_flag = refl; apart = refl; joined = λ v. refl }
 
+pub finds_statement : Finds (codes "statement")
+finds_statement = record { long = refl; id = refl; is_option = refl; is_no_flag = refl; apart = refl; joined = λ v. refl }
+
 pub record FindsFlag (name : Text) : Type 0 where
   pub long : arg_by_long top.rules name ≡ Some (flag name)
   pub is_flag : is_among name flags ≡ true
@@ -221,17 +224,18 @@ stray_turn x rows p l d e = go (short_of x) refl
         let bad : kind.UnknownArgument ∷ [] ≡ [] = rw (first, clear) at both in cc
 
 pub finds_or_not : (n : Text) → Finds n ⊎ FindsFlag n ⊎ FindsNone n
-finds_or_not n = go (bytes_eq (codes "workers") n) (bytes_eq (codes "queue") n) (bytes_eq (codes "make") n) (bytes_eq (codes "jobs") n) (bytes_eq (codes "accounts") n) (bytes_eq (codes "board") n) refl refl refl refl refl refl
+finds_or_not n = go (bytes_eq (codes "workers") n) (bytes_eq (codes "queue") n) (bytes_eq (codes "make") n) (bytes_eq (codes "jobs") n) (bytes_eq (codes "statement") n) (bytes_eq (codes "accounts") n) (bytes_eq (codes "board") n) refl refl refl refl refl refl refl
   where
-    go : (a b c d k p : Bool) → bytes_eq (codes "workers") n ≡ a → bytes_eq (codes "queue") n ≡ b → bytes_eq (codes "make") n ≡ c → bytes_eq (codes "jobs") n ≡ d → bytes_eq (codes "accounts") n ≡ k → bytes_eq (codes "board") n ≡ p
-        → Finds n ⊎ FindsFlag n ⊎ FindsNone n
-    go true b c d k p ea eb ec ed ek ep = inl (subst Finds (same _ _ ea) finds_workers)
-    go false true c d k p ea eb ec ed ek ep = inl (subst Finds (same _ _ eb) finds_queue)
-    go false false true d k p ea eb ec ed ek ep = inl (subst Finds (same _ _ ec) finds_make)
-    go false false false true k p ea eb ec ed ek ep = inl (subst Finds (same _ _ ed) finds_jobs)
-    go false false false false true p ea eb ec ed ek ep = inr (inl (subst FindsFlag (same _ _ ek) finds_accounts))
-    go false false false false false true ea eb ec ed ek ep = inr (inl (subst FindsFlag (same _ _ ep) finds_board))
-    go false false false false false false ea eb ec ed ek ep = inr (inr (record { long = rw (ea, eb, ec, ed, ek, ep) refl; is_no_option = rw (ea, eb, ec, ed) refl; is_no_flag = rw (ek, ep) refl }))
+    go : (a b c d s k p : Bool) → bytes_eq (codes "workers") n ≡ a → bytes_eq (codes "queue") n ≡ b → bytes_eq (codes "make") n ≡ c → bytes_eq (codes "jobs") n ≡ d
+        → bytes_eq (codes "statement") n ≡ s → bytes_eq (codes "accounts") n ≡ k → bytes_eq (codes "board") n ≡ p → Finds n ⊎ FindsFlag n ⊎ FindsNone n
+    go true b c d s k p ea eb ec ed es ek ep = inl (subst Finds (same _ _ ea) finds_workers)
+    go false true c d s k p ea eb ec ed es ek ep = inl (subst Finds (same _ _ eb) finds_queue)
+    go false false true d s k p ea eb ec ed es ek ep = inl (subst Finds (same _ _ ec) finds_make)
+    go false false false true s k p ea eb ec ed es ek ep = inl (subst Finds (same _ _ ed) finds_jobs)
+    go false false false false true k p ea eb ec ed es ek ep = inl (subst Finds (same _ _ es) finds_statement)
+    go false false false false false true p ea eb ec ed es ek ep = inr (inl (subst FindsFlag (same _ _ ek) finds_accounts))
+    go false false false false false false true ea eb ec ed es ek ep = inr (inl (subst FindsFlag (same _ _ ep) finds_board))
+    go false false false false false false false ea eb ec ed es ek ep = inr (inr (record { long = rw (ea, eb, ec, ed, es, ek, ep) refl; is_no_option = rw (ea, eb, ec, ed, es) refl; is_no_flag = rw (ek, ep) refl }))
 
 pub waiting_long : (n m x : Text) (rows : List Row) → Finds n → Finds m → (v : Option Text) → bytes_eq x (45 ∷ 45 ∷ []) ≡ false → long_of x ≡ Some (m, v)
     → turn (waits_at n (holds rows (Some (n, [])))) x ≡ [] → ⊥

@@ -141,12 +141,13 @@ default_same rows a e = elim (has_row a.id rows) as (λ b. (if b then rows else 
   | false ↦ rw e refl
 ]
 
-pub four_defaults : (a b c d : Rule) (rows : List Row) → a.defaults ≡ [] → b.defaults ≡ [] → c.defaults ≡ [] → d.defaults ≡ []
-    → fold with_default rows (a ∷ b ∷ c ∷ d ∷ []) ≡ rows
-four_defaults a b c d rows ea eb ec ed =
-    ap (λ r. with_default (with_default (with_default r b) c) d) (default_same rows a ea)
-    ∙ ap (λ r. with_default (with_default r c) d) (default_same rows b eb)
-    ∙ ap (λ r. with_default r d) (default_same rows c ec) ∙ default_same rows d ed
+pub five_defaults : (a b c d s : Rule) (rows : List Row) → a.defaults ≡ [] → b.defaults ≡ [] → c.defaults ≡ [] → d.defaults ≡ [] → s.defaults ≡ []
+    → fold with_default rows (a ∷ b ∷ c ∷ d ∷ s ∷ []) ≡ rows
+five_defaults a b c d s rows ea eb ec ed es =
+    ap (λ r. with_default (with_default (with_default (with_default r b) c) d) s) (default_same rows a ea)
+    ∙ ap (λ r. with_default (with_default (with_default r c) d) s) (default_same rows b eb)
+    ∙ ap (λ r. with_default (with_default r d) s) (default_same rows c ec)
+    ∙ ap (λ r. with_default r s) (default_same rows d ed) ∙ default_same rows s es
 
 pub default_none : (rows : List Row) (a : Rule) → a.defaults ≡ [] → default_fault rows a ≡ []
 default_none rows a e = elim (has_row a.id rows) as (λ b. (if b || is_empty a.defaults then [] else given_default_fault a a.defaults) ≡ []) [
@@ -171,16 +172,17 @@ default_flag name rows = elim (has_row name rows) as (λ b. (if b || is_empty (w
   | false ↦ refl
 ]
 
-pub all_faults : (a b c d : Rule) (rows : List Row) → a.defaults ≡ [] → b.defaults ≡ [] → c.defaults ≡ [] → d.defaults ≡ []
-    → defaults_fault rows (a ∷ b ∷ c ∷ d ∷ accounts ∷ board ∷ []) ≡ []
+pub all_faults : (a b c d s : Rule) (rows : List Row) → a.defaults ≡ [] → b.defaults ≡ [] → c.defaults ≡ [] → d.defaults ≡ [] → s.defaults ≡ []
+    → defaults_fault rows (a ∷ b ∷ c ∷ d ∷ s ∷ accounts ∷ board ∷ []) ≡ []
 unfolding defaults_fault
-all_faults a b c d rows ea eb ec ed = rw (
+all_faults a b c d s rows ea eb ec ed es = rw (
   default_none rows a ea,
   default_none (with_default rows a) b eb,
   default_none (with_default (with_default rows a) b) c ec,
   default_none (with_default (with_default (with_default rows a) b) c) d ed,
-  default_flag (codes "accounts") (with_default (with_default (with_default (with_default rows a) b) c) d),
-  default_flag (codes "board") (with_default (with_default (with_default (with_default (with_default rows a) b) c) d) accounts),
+  default_none (with_default (with_default (with_default (with_default rows a) b) c) d) s es,
+  default_flag (codes "accounts") (with_default (with_default (with_default (with_default (with_default rows a) b) c) d) s),
+  default_flag (codes "board") (with_default (with_default (with_default (with_default (with_default (with_default rows a) b) c) d) s) accounts),
 ) refl
 
 pub no_check : (rows : List Row) (has : Bool) → check_fault top rows has ≡ []
@@ -200,10 +202,10 @@ fault_is words =
     let rows = (settled top.rules end.held).rows in
     five (walk_fault top [] (walk_from nothing_held) words) (entered_fault (built monitor_app) end.stopped) (settle_fault top.rules false end.held)
     (defaults_fault rows top.rules) (check_fault top (finished top.rules end.held) (is_some (entered (built monitor_app) end.stopped)))
-    (no_entry end.stopped) (all_faults (rule (codes "workers")) (rule (codes "queue")) (rule (codes "make")) (rule (codes "jobs")) rows refl refl refl refl) (no_check (finished top.rules end.held) (is_some (entered (built monitor_app) end.stopped)))
+    (no_entry end.stopped) (all_faults (rule (codes "workers")) (rule (codes "queue")) (rule (codes "make")) (rule (codes "jobs")) (rule (codes "statement")) rows refl refl refl refl refl) (no_check (finished top.rules end.held) (is_some (entered (built monitor_app) end.stopped)))
 
 pub matches_is : (words : List Text) → matches_of monitor_app words ≡ with_flags (rest_rows (walk_from nothing_held) words)
-matches_is words = ap with_flags (four_defaults (rule (codes "workers")) (rule (codes "queue")) (rule (codes "make")) (rule (codes "jobs")) (rest_rows (walk_from nothing_held) words) refl refl refl refl)
+matches_is words = ap with_flags (five_defaults (rule (codes "workers")) (rule (codes "queue")) (rule (codes "make")) (rule (codes "jobs")) (rule (codes "statement")) (rest_rows (walk_from nothing_held) words) refl refl refl refl refl)
 
 -- ---- what clap takes is of the form
 

@@ -20,7 +20,8 @@ bare_app = on_top (λ s. record s {
   disable_version_flag = true;
 }) (new_app (codes "monitor"))
 
--- the four options, and the two flags
+-- the five options, and the two flags
 abbrev pub monitor_app : App
-monitor_app = with_rule (with_rule (with_rule (with_rule (with_rule (with_rule bare_app (option_rule (codes "workers")))
-    (option_rule (codes "queue"))) (option_rule (codes "make"))) (option_rule (codes "jobs"))) (flag_rule (codes "accounts"))) (flag_rule (codes "board"))
+monitor_app = with_rule (with_rule (with_rule (with_rule (with_rule (with_rule (with_rule bare_app (option_rule (codes "workers")))
+    (option_rule (codes "queue"))) (option_rule (codes "make"))) (option_rule (codes "jobs"))) (option_rule (codes "statement")))
+    (flag_rule (codes "accounts"))) (flag_rule (codes "board"))

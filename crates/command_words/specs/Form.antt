@@ -5,8 +5,9 @@ use Rattle.std.specs.Int.{is_in_range}
 use Rattle.std.specs.List.{IsDistinct, flat_map, list_any, list_all}
 use Rattle.std.specs.Str.{bytes_eq}
 use Rattle.std.specs.Str.Parse.{digits_value}
+use Rattle.deck_reader.specs.Forms as forms
 use Rattle.command_words.specs.declared.order.Order.{Order}
-use Rattle.command_words.specs.declared.order.Order.TheVariants.{Run, Make}
+use Rattle.command_words.specs.declared.order.Order.TheVariants.{Run, Make, Statement}
 
 abbrev pub Text : Type 0
 Text = List ℕ
@@ -41,7 +42,7 @@ abbrev pub words_of : List Use → List Text
 words_of uses = flat_map words_of_use uses
 
 abbrev pub options : List Text
-options = codes "workers" ∷ codes "queue" ∷ codes "make" ∷ codes "jobs" ∷ []
+options = codes "workers" ∷ codes "queue" ∷ codes "make" ∷ codes "jobs" ∷ codes "statement" ∷ []
 
 abbrev pub flags : List Text
 flags = codes "accounts" ∷ codes "board" ∷ []
@@ -85,16 +86,23 @@ abbrev pub make_from : Option ℕ → Option ℕ → Option ℕ → Option ℕ �
 make_from (Some seed) (Some jobs) (Some workers) (Some queue) = Some (Make seed jobs workers queue)
 make_from _ _ _ _ = None
 
--- the order of these values: `--make` and `--jobs` stand together or not at all, and not beside `--accounts` or `--board`
-abbrev pub order_from : Option Text → Option Text → Bool → Bool → Option ℕ → Option ℕ → Option Order
-order_from None None accounts board workers queue = run_from accounts board workers queue
-order_from (Some make) (Some jobs) false false workers queue =
+abbrev pub statement_from : Option Text → Option ℕ → Option ℕ → Option Order
+statement_from (Some name) (Some workers) (Some queue) = Some (Statement name workers queue)
+statement_from _ _ _ = None
+
+-- the order of these values: `--make` and `--jobs` stand together or not at all, and not beside `--statement`, whose value is an
+-- account's name; none of the three stands beside `--accounts` or `--board`
+abbrev pub order_from : Option Text → Option Text → Option Text → Bool → Bool → Option ℕ → Option ℕ → Option Order
+order_from None None None accounts board workers queue = run_from accounts board workers queue
+order_from None None (Some name) false false workers queue = statement_from (forms.name_of name) workers queue
+order_from (Some make) (Some jobs) None false false workers queue =
     make_from (number_in 0 4294967295 make) (number_in 1 2000 jobs) workers queue
-order_from _ _ _ _ _ _ = None
+order_from _ _ _ _ _ _ _ = None
 
 -- the order that the options and flags say: 1 to 16 workers or 4, a queue of 1 to 64 or 8
 abbrev pub order_of : List Use → Option Order
-order_of uses = order_from (value_of (codes "make") uses) (value_of (codes "jobs") uses) (has_flag (codes "accounts") uses) (has_flag (codes "board") uses)
+order_of uses = order_from (value_of (codes "make") uses) (value_of (codes "jobs") uses) (value_of (codes "statement") uses)
+    (has_flag (codes "accounts") uses) (has_flag (codes "board") uses)
     (number_or 4 1 16 (value_of (codes "workers") uses))
     (number_or 8 1 64 (value_of (codes "queue") uses))
 

@@ -25,7 +25,7 @@ pub fn matches_of<'a>(alloc: Global, words: &'a [String]) -> Result<ArgMatches<'
     }
 }
 
-/// The command: its four options and its two flags, with no help and no version of `clap`'s own.
+/// The command: its five options and its two flags, with no help and no version of `clap`'s own.
 fn command<'a>(alloc: Global) -> Result<Command<'a>, AllocError>
     ensures { IfOk result (λ c. app_of c ≡ monitor_app) }
 {
@@ -37,6 +37,7 @@ fn command<'a>(alloc: Global) -> Result<Command<'a>, AllocError>
         .arg(option(alloc, "queue"))?
         .arg(option(alloc, "make"))?
         .arg(option(alloc, "jobs"))?
+        .arg(option(alloc, "statement"))?
         .arg(flag(alloc, "accounts"))?
         .arg(flag(alloc, "board"))
 }

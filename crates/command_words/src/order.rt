@@ -5,10 +5,11 @@ ghost use Rattle.command_words.specs.Form.{IsOrder, dashed, make_from, number_in
 
 use crate::numbers::{number_in, number_or};
 use crate::options::matches_of;
+use deck_reader::{Name, name_of};
 use std::alloc::Global;
 
 /// What the words tell the monitor to do.
-#[derive(Clone, Copy, Debug, PartialEq, Eq)]
+#[derive(Clone, Copy, PartialEq, Eq)]
 pub enum Order {
     /// Run a batch that is read.
     Run {
@@ -27,6 +28,15 @@ pub enum Order {
         seed: u32,
         /// The number of its jobs.
         jobs: u32,
+        /// The number of workers.
+        workers: u32,
+        /// The number of tickets that the queue holds.
+        queue: u32,
+    },
+    /// Run a batch that is read, and write the statement of one of its accounts.
+    Statement {
+        /// The account's name, in capitals.
+        name: Name,
         /// The number of workers.
         workers: u32,
         /// The number of tickets that the queue holds.
@@ -60,9 +70,10 @@ pub fn read_words(alloc: Global, words: &[String]) -> Result<Order, WordsError>
     let queue = number_or(8, matches.get_str("queue"), 1, 64);
     let make = matches.get_str("make");
     let jobs = matches.get_str("jobs");
+    let statement = matches.get_str("statement");
     let accounts = matches.get_flag("accounts");
     let board = matches.get_flag("board");
-    match order_from(make, jobs, accounts, board, workers, queue) {
+    match order_from(make, jobs, statement, accounts, board, workers, queue) {
         Some(order) => Ok(order),
         None => Err(WordsError::BadWords),
     }
@@ -81,28 +92,35 @@ fn is_dashes(word: &String) -> bool
     word.as_str() == "--"
 }
 
-/// The order of these values. `--make` and `--jobs` stand together or not at all, and not beside `--accounts` or `--board`.
+/// The order of these values. `--make` and `--jobs` stand together or not at all. They and `--statement` don't stand together,
+/// and none of these three stands beside `--accounts` or `--board`.
 fn order_from(
     make: Option<&str>,
     jobs: Option<&str>,
+    statement: Option<&str>,
     accounts: bool,
     board: bool,
     workers: Option<u32>,
     queue: Option<u32>,
 ) -> Option<Order>
     ensures { result ≡ order_from (option_map (λ s. s.now) make.entry) (option_map (λ s. s.now) jobs.entry)
-        accounts board workers queue }
+        (option_map (λ s. s.now) statement.entry) accounts board workers queue }
 {
     let workers = workers?;
     let queue = queue?;
-    match (make, jobs, accounts || board) {
-        (None, None, _) => Some(Order::Run {
+    match (make, jobs, statement, accounts || board) {
+        (None, None, None, _) => Some(Order::Run {
             workers,
             queue,
             accounts,
             board,
         }),
-        (Some(make), Some(jobs), false) => made(make, jobs, workers, queue),
+        (None, None, Some(name), false) => Some(Order::Statement {
+            name: name_of(name.as_bytes())?,
+            workers,
+            queue,
+        }),
+        (Some(make), Some(jobs), None, false) => made(make, jobs, workers, queue),
         _ => None,
     }
 }

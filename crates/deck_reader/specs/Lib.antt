@@ -13,4 +13,3 @@ pub mod BatchLaws
 pub mod Reading
 pub mod Fed
 pub mod JobEquality
-pub mod JobEqualityLaws

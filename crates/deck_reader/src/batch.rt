@@ -109,8 +109,7 @@ impl Model for Job {
 /// Equal where all their parts are.
 impl PartialEq for Job {
     ghost use Rattle.std.specs.Cmp.{decided, partial_equiv_from_equiv};
-    ghost use Rattle.deck_reader.specs.JobEquality.{job_eq};
-    ghost use Rattle.deck_reader.specs.JobEqualityLaws.{equal_jobs_are_same};
+    ghost use Rattle.deck_reader.specs.JobEquality.{equal_jobs_are_same, job_eq};
 
     ghost eq = { job_eq };
 
@@ -133,8 +132,7 @@ impl PartialEq for Job {
 
 impl Eq for Job {
     ghost use Rattle.std.specs.Cmp.{decided};
-    ghost use Rattle.deck_reader.specs.JobEquality.{job_eq};
-    ghost use Rattle.deck_reader.specs.JobEqualityLaws.{equal_jobs_are_same};
+    ghost use Rattle.deck_reader.specs.JobEquality.{equal_jobs_are_same, job_eq};
 
     ghost laws = { decided job_eq equal_jobs_are_same };
 }

@@ -152,7 +152,7 @@ pub fn stripped(bytes: &[u8]) -> &[u8]
 }
 
 /// The name in capitals, where these bytes are one.
-fn name_of(bytes: &[u8]) -> Option<Name>
+pub fn name_of(bytes: &[u8]) -> Option<Name>
     ensures { result ≡ name_of bytes.now }
 {
     if !is_name(bytes) {

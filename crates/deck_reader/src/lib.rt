@@ -17,6 +17,7 @@ mod reading;
 pub use accounts::find_account;
 pub use batch::{Account, Batch, Flaw, Job};
 pub use bytes::split_once;
+pub use forms::name_of;
 pub use laws::{
     account_card_by_parts, accounts_stay, equal_jobs_are_same, job_card_by_parts, jobs_stay,
     pieces_joined,

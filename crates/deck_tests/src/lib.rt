@@ -27,6 +27,8 @@ mod runs;
 #[cfg(test)]
 mod statement_code;
 #[cfg(test)]
+mod statements;
+#[cfg(test)]
 mod value_code;
 #[cfg(test)]
 mod workers;

@@ -8,7 +8,7 @@ use Rattle.deck_reader.specs.JobView.{JobView}
 use Rattle.account_book.specs.Charges.{reserve}
 use Rattle.account_book.specs.Places as places
 use Rattle.batch_core.specs.declared.event.Event.{Event}
-use Rattle.batch_listing.specs.Listing.{charged}
+use Rattle.algolw_meaning.specs.Charging.{charged}
 use Rattle.listing_order.specs.Decisions.{accepts, cost, payment}
 
 pays_nothing : (b : Bool) (balance paid : ℕ) → balance ≡ balance - cond (b && false) paid 0

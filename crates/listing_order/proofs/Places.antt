@@ -19,7 +19,8 @@ use Rattle.batch_core.specs.Order.{MayCost, AreCharges, Agrees, accepted_at, cla
 use Rattle.batch_core.proofs.Lists.{have_arrived}
 use Rattle.batch_core.proofs.Listed.{as_listed}
 use Rattle.batch_core.proofs.Steps.{keeps_start, keeps_all}
-use Rattle.batch_listing.specs.Listing.{accepted, charged}
+use Rattle.algolw_meaning.specs.Charging.{charged}
+use Rattle.batch_listing.specs.Listing.{accepted}
 use Rattle.listing_order.specs.Decisions.{accepts, refuses, cost}
 use Rattle.listing_order.specs.Laws.{BringsToEnd}
 use Rattle.listing_order.proofs.Decided.{DecidedAs, accepts_listed, refuses_listed, decided_as}

@@ -11,8 +11,9 @@ use Rattle.account_book.specs.Charges.{reserve}
 use Rattle.account_book.specs.Places.{account_by, is_accepted, place_balance}
 use Rattle.algolw_meaning.specs.Running.{job_result}
 use Rattle.batch_core.specs.declared.event.Event.{Event}
-use Rattle.batch_listing.specs.declared.decision.Decision.TheVariants.{Accepted, Refused}
-use Rattle.batch_listing.specs.Listing.{accepted, body, charged, closing_lines, decision_by, section, sections}
+use Rattle.batch_listing.specs.declared.verdict.Verdict.TheVariants.{Accepted, Refused}
+use Rattle.algolw_meaning.specs.Charging.{charged}
+use Rattle.batch_listing.specs.Listing.{accepted, body, closing_lines, verdict_by, section, sections}
 use Rattle.batch_listing.specs.Texts.{heading, title, closing, closing_line}
 use Rattle.listing_order.specs.Decisions.{accepts, refuses, closing_lines_by, left, left_on, refusal, section_by}
 use Rattle.listing_order.specs.Laws.{BringsToEnd, DecisionsGiveTheListing, DecisionsGiveTheSections}
@@ -55,7 +56,7 @@ body_if true payer asked balance flaw job none = refl
 body_if false payer asked balance flaw job none = ap (λ (f : Option Flaw). refusal f asked balance) none
 
 body_by : (flaw : Option Flaw) (payer : Option ℕ) (asked : ℕ) (balance : ℕ → ℕ) (job : JobView)
-    → cond (is_accepted balance (record { account = account_by flaw payer; reserve = asked })) (job_result job).body (refusal flaw asked (left_on balance payer)) ≡ body (decision_by flaw payer asked balance) job
+    → cond (is_accepted balance (record { account = account_by flaw payer; reserve = asked })) (job_result job).body (refusal flaw asked (left_on balance payer)) ≡ body (verdict_by flaw payer asked balance) job
 body_by (Some flaw) payer asked balance job = refl
 body_by None None asked balance job = refl
 body_by None (Some payer) asked balance job = body_if (nat_le asked (balance payer)) payer asked (balance payer) None job refl

@@ -14,6 +14,7 @@ use stack_code::Mode;
 use value_ops::{ClassId, RecordId, Value};
 
 /// The value or place of a field of the record that is held. F7, F8, F6.
+#[inline(always)]
 pub fn field(
     state: &mut State,
     mode: Mode,

@@ -25,6 +25,8 @@ mod ports;
 #[cfg(test)]
 mod rows;
 #[cfg(test)]
+mod statements;
+#[cfg(test)]
 mod summaries;
 #[cfg(test)]
 mod tickets;

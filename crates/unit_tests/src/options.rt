@@ -1,5 +1,6 @@
 use crate::rows::{see, unsigned, words};
 use command_words::{Order, WordsError, read_words};
+use deck_reader::Name;
 use std::alloc::{AllocError, Global};
 use std::process::Abort;
 
@@ -81,6 +82,30 @@ fn orders(rt: HostRuntime) {
     }
 }
 
+/// A line that asks for a statement, and behind the bar the account's name, the workers and the queue.
+const STATEMENTS: &str = "\
+--statement ADA|ADA 4 8
+--statement=ada|ADA 4 8
+--statement aDa1 --workers 2|ADA1 2 8
+--queue=3 --statement=Z2345678 --workers 16|Z2345678 16 3
+";
+
+#[test]
+fn statements(rt: HostRuntime) {
+    for row in STATEMENTS.lines() {
+        let (line, wanted) = row.split_once('|').unwrap_or((row, ""));
+        let [name, workers, queue, ..] = words(wanted);
+        let name = name.as_bytes();
+        assert!(rt; name.len() <= 8);
+        let order = Order::Statement {
+            name: Name::from_slice(name),
+            workers: unsigned(&rt, workers),
+            queue: unsigned(&rt, queue),
+        };
+        see(&rt, row, answers(rt.alloc(), line, Ok(order)));
+    }
+}
+
 /// A line, and what is wrong with it: a value that isn't of its range or no number, an option without its value, an option given
 /// twice, one of two options that stand together, two that don't, or words that are no option.
 const REFUSALS: &str = "\
@@ -133,6 +158,23 @@ const REFUSALS: &str = "\
 --accounts yes|no option
 --accounts --workers|no value
 --workers --accounts|no value
+--statement|no value
+--statement --workers 4|no value
+--statement=|value
+--statement 1A|value
+--statement -A|value
+--statement A-B|value
+--statement A23456789|value
+--statement ADA --statement ADA|twice
+--statement ADA --statement=BOB|twice
+--statement ADA --accounts|not together
+--accounts --statement ADA|not together
+--statement ADA --board|not together
+--board --statement ADA|not together
+--statement ADA --make 7 --jobs 1|not together
+--make 7 --jobs 1 --statement ADA|not together
+--statement ADA --jobs 1|not together
+--statement ADA BOB|no option
 --account|no option
 -accounts|no option
 4|no option

@@ -1,5 +1,4 @@
-use Rattle.std.proofs.Common.{◌∙◌, ℕ, inl, sym, subst}
-use Rattle.batch_io.specs.Causes.{Rose}
+use Rattle.std.proofs.Common.{◌∙◌, sym, subst}
 use Rattle.batch_monitor.specs.Asked.{IsBoard}
 use Rattle.batch_monitor.proofs.Boards.{board_shows, part_of_line, part_of_listing, part_of_whole, written_so}
 use Rattle.batch_monitor.proofs.Closings.{closed_in_part_so, closed_so, closed_without}

@@ -1,115 +1,98 @@
-use Rattle.std.proofs.Common.{◌≡◌, ◌⊎◌, Err, ap, refl, subst, ◌∙◌, true, false}
+use Rattle.std.proofs.Common.{Err, ap, refl}
 use Rattle.command_words.specs.declared.order.WordsError.{WordsError}
-use Rattle.batch_io.specs.Causes.{Rose}
-use Rattle.batch_monitor.specs.declared.asked.Asked.{Asked}
-use Rattle.batch_monitor.specs.declared.top.Status.TheVariants as statuses
-use Rattle.batch_monitor.specs.Outcome.{IsCut, IsCutInBalances, IsDone}
 use Rattle.batch_monitor.proofs.Boards.{shown_so}
-use Rattle.batch_monitor.proofs.Endings.{cut_or, made_after, nothing_done, nothing_made}
-use Rattle.batch_monitor.proofs.Known.{HasCauses, complete_so, refused_accounts_so, refused_so}
-use Rattle.batch_monitor.proofs.SaidOrders.{accounts_said, jobs_in_range, make_in_range, not_made, not_run, or_said, run_in_range, said_as, same_asked, same_made}
+use Rattle.batch_monitor.proofs.Endings.{cut_or, nothing_done, nothing_made}
+use Rattle.batch_monitor.proofs.Known.{complete_so, refused_accounts_so, refused_so}
+use Rattle.batch_monitor.proofs.SaidOrders.{or_asked, or_says, said, said_make, said_run, said_statement, says_accounts, with_asked}
+use Rattle.batch_monitor.proofs.Stating.{none_ends, nothing_stated}
 use Rattle.batch_monitor.proofs.top.run_monitor.Goals as goal
 
-pub new-requires-clause-workers : goal.new-requires-clause-workers
-new-requires-clause-workers g c = (run_in_range _ _ _ _ _ (said_as c.in-Ok-Run.field-0-is c.in-Ok-Run.ensures.ok)).some
+-- ---- the words say an order
 
-pub new-requires-clause-queue : goal.new-requires-clause-queue
-new-requires-clause-queue g c = (run_in_range _ _ _ _ _ (said_as c.in-Ok-Run.field-0-is c.in-Ok-Run.ensures.ok)).room
+pub staff_for-requires : goal.staff_for-requires
+staff_for-requires g c = record { said = said _ c.in-Ok.order c.in-Ok.ensures.ok }
 
-pub new-requires-in-Ok-Make-clause-workers : goal.new-requires-in-Ok-Make-clause-workers
-new-requires-in-Ok-Make-clause-workers g c = (make_in_range _ _ _ _ _ (said_as c.in-Ok-Make.field-0-is c.in-Ok-Make.ensures.ok)).some
+pub obey-requires-clause-said : goal.obey-requires-clause-said
+obey-requires-clause-said g c = λ _ _. said _ c.in-Ok.order c.in-Ok.ensures.ok
 
-pub new-requires-in-Ok-Make-clause-queue : goal.new-requires-in-Ok-Make-clause-queue
-new-requires-in-Ok-Make-clause-queue g c = (make_in_range _ _ _ _ _ (said_as c.in-Ok-Make.field-0-is c.in-Ok-Make.ensures.ok)).room
+pub returns-in-Ok-staff_for-clause-done : goal.returns-in-Ok-staff_for-clause-done
+returns-in-Ok-staff_for-clause-done g c = λ asked says. c.obey.ensures.done asked (said_run _ c.in-Ok.order c.in-Ok.ensures.ok asked says)
 
-pub run_made-requires-clause-few : goal.run_made-requires-clause-few
-run_made-requires-clause-few g c = λ _ _. jobs_in_range _ _ _ _ _ (said_as c.in-Ok-Make.field-0-is c.in-Ok-Make.ensures.ok)
+pub returns-in-Ok-staff_for-clause-cut : goal.returns-in-Ok-staff_for-clause-cut
+returns-in-Ok-staff_for-clause-cut g c = λ asked says. c.obey.ensures.cut asked (said_run _ c.in-Ok.order c.in-Ok.ensures.ok asked says)
 
-pub returns-in-Ok-clause-done : goal.returns-in-Ok-clause-done
-returns-in-Ok-clause-done g c = λ asked says.
-    let e = same_asked _ c.in-Ok-Run.workers c.in-Ok-Run.queue c.in-Ok-Run.accounts c.in-Ok-Run.board asked (said_as c.in-Ok-Run.field-0-is c.in-Ok-Run.ensures.ok) says in
-    subst (λ (a : Asked). c.run_batch.result ≡ statuses.Done → IsDone a (g.S.Source.left c.args.src.now) (g.S.Source.left c.run_batch.new.src) (g.K.Sink.written c.args.sink.now) (g.K.Sink.written c.run_batch.new.sink) (g.A.Source.left c.args.accounts_src.now) (g.A.Source.left c.run_batch.new.accounts_src) (g.B.Sink.written c.args.accounts_sink.now) (g.B.Sink.written c.run_batch.new.accounts_sink)) e c.run_batch.ensures.done
+pub returns-in-Ok-staff_for-clause-balances : goal.returns-in-Ok-staff_for-clause-balances
+returns-in-Ok-staff_for-clause-balances g c = λ asked says. c.obey.ensures.balances asked (said_run _ c.in-Ok.order c.in-Ok.ensures.ok asked says)
 
-pub returns-in-Ok-clause-board : goal.returns-in-Ok-clause-board
-returns-in-Ok-clause-board g c = λ asked says is done.
-    let e = same_asked _ c.in-Ok-Run.workers c.in-Ok-Run.queue c.in-Ok-Run.accounts c.in-Ok-Run.board asked (said_as c.in-Ok-Run.field-0-is c.in-Ok-Run.ensures.ok) says in
-    shown_so asked (g.S.Source.left c.args.src.now) (g.S.Source.left c.run_batch.new.src) (g.K.Sink.written c.args.sink.now) (g.K.Sink.written c.run_batch.new.sink) (g.A.Source.left c.args.accounts_src.now) (g.A.Source.left c.run_batch.new.accounts_src) (g.B.Sink.written c.args.accounts_sink.now) (g.B.Sink.written c.run_batch.new.accounts_sink) is
-    (subst (λ (a : Asked). IsDone a (g.S.Source.left c.args.src.now) (g.S.Source.left c.run_batch.new.src) (g.K.Sink.written c.args.sink.now) (g.K.Sink.written c.run_batch.new.sink) (g.A.Source.left c.args.accounts_src.now) (g.A.Source.left c.run_batch.new.accounts_src) (g.B.Sink.written c.args.accounts_sink.now) (g.B.Sink.written c.run_batch.new.accounts_sink)) e (c.run_batch.ensures.done done))
+pub returns-in-Ok-staff_for-clause-alone : goal.returns-in-Ok-staff_for-clause-alone
+returns-in-Ok-staff_for-clause-alone g c = λ asked says. c.obey.ensures.alone asked (said_run _ c.in-Ok.order c.in-Ok.ensures.ok asked says)
 
-pub returns-in-Ok-clause-cut : goal.returns-in-Ok-clause-cut
-returns-in-Ok-clause-cut g c = λ asked says.
-    let e = same_asked _ c.in-Ok-Run.workers c.in-Ok-Run.queue c.in-Ok-Run.accounts c.in-Ok-Run.board asked (said_as c.in-Ok-Run.field-0-is c.in-Ok-Run.ensures.ok) says in
-    subst (λ (a : Asked). (c.run_batch.result ≡ statuses.Done → ⊥) → IsCut a (g.S.Source.left c.args.src.now) (g.S.Source.left c.run_batch.new.src) (g.K.Sink.written c.args.sink.now) (g.K.Sink.written c.run_batch.new.sink) (g.A.Source.left c.args.accounts_src.now) (g.A.Source.left c.run_batch.new.accounts_src)
-    ⊎ ((a.accounts ≡ true) × (c.run_batch.new.src ≡ c.args.src.now) × (c.run_batch.new.sink ≡ c.args.sink.now))) e c.run_batch.ensures.cut
+pub returns-in-Ok-staff_for-clause-board : goal.returns-in-Ok-staff_for-clause-board
+returns-in-Ok-staff_for-clause-board g c = λ asked says is done.
+    shown_so asked (g.S.Source.left c.args.src.now) (g.S.Source.left c.obey.new.src) (g.K.Sink.written c.args.sink.now) (g.K.Sink.written c.obey.new.sink) (g.A.Source.left c.args.accounts_src.now) (g.A.Source.left c.obey.new.accounts_src) (g.B.Sink.written c.args.accounts_sink.now) (g.B.Sink.written c.obey.new.accounts_sink) is (c.obey.ensures.done asked (said_run _ c.in-Ok.order c.in-Ok.ensures.ok asked says) done)
 
-pub returns-in-Ok-clause-balances : goal.returns-in-Ok-clause-balances
-returns-in-Ok-clause-balances g c = λ asked says.
-    let e = same_asked _ c.in-Ok-Run.workers c.in-Ok-Run.queue c.in-Ok-Run.accounts c.in-Ok-Run.board asked (said_as c.in-Ok-Run.field-0-is c.in-Ok-Run.ensures.ok) says in
-    subst (λ (a : Asked). (c.run_batch.result ≡ statuses.Done → ⊥) → (c.run_batch.new.accounts_sink ≡ c.args.accounts_sink.now)
-    ⊎ ((c.run_batch.result ≡ statuses.WriteFault) × IsCutInBalances a (g.S.Source.left c.args.src.now) (g.S.Source.left c.run_batch.new.src) (g.K.Sink.written c.args.sink.now) (g.K.Sink.written c.run_batch.new.sink) (g.A.Source.left c.args.accounts_src.now) (g.A.Source.left c.run_batch.new.accounts_src) (g.B.Sink.written c.args.accounts_sink.now) (g.B.Sink.written c.run_batch.new.accounts_sink))) e c.run_batch.ensures.balances
+pub returns-in-Ok-staff_for-clause-read : goal.returns-in-Ok-staff_for-clause-read
+returns-in-Ok-staff_for-clause-read g c = λ is. or_says _ c.in-Ok.order c.in-Ok.ensures.ok (c.obey.ensures.read is)
 
-pub returns-in-Ok-clause-alone : goal.returns-in-Ok-clause-alone
-returns-in-Ok-clause-alone g c = λ asked says without. c.run_batch.ensures.alone (ap (λ (a : Asked). a.accounts) (same_asked _ c.in-Ok-Run.workers c.in-Ok-Run.queue c.in-Ok-Run.accounts c.in-Ok-Run.board asked (said_as c.in-Ok-Run.field-0-is c.in-Ok-Run.ensures.ok) says) ∙ without)
+pub returns-in-Ok-staff_for-clause-write : goal.returns-in-Ok-staff_for-clause-write
+returns-in-Ok-staff_for-clause-write g c = λ is. or_says _ c.in-Ok.order c.in-Ok.ensures.ok (c.obey.ensures.write is)
 
-pub returns-in-Ok-clause-read : goal.returns-in-Ok-clause-read
-returns-in-Ok-clause-read g c = λ is. or_said _ c.in-Ok-Run.workers c.in-Ok-Run.queue c.in-Ok-Run.accounts c.in-Ok-Run.board (said_as c.in-Ok-Run.field-0-is c.in-Ok-Run.ensures.ok) (c.run_batch.ensures.read is)
+pub returns-in-Ok-staff_for-clause-accounts : goal.returns-in-Ok-staff_for-clause-accounts
+returns-in-Ok-staff_for-clause-accounts g c = λ is. says_accounts _ c.in-Ok.order c.in-Ok.ensures.ok (c.obey.ensures.accounts is)
 
-pub returns-in-Ok-clause-write : goal.returns-in-Ok-clause-write
-returns-in-Ok-clause-write g c = λ is. or_said _ c.in-Ok-Run.workers c.in-Ok-Run.queue c.in-Ok-Run.accounts c.in-Ok-Run.board (said_as c.in-Ok-Run.field-0-is c.in-Ok-Run.ensures.ok) (c.run_batch.ensures.write is)
+pub returns-in-Ok-staff_for-clause-refused_accounts : goal.returns-in-Ok-staff_for-clause-refused_accounts
+returns-in-Ok-staff_for-clause-refused_accounts g c = λ says.
+    refused_accounts_so says.asked.accounts (g.A.Source.left c.args.accounts_src.now) (g.A.Source.left c.obey.new.accounts_src) c.obey.result says.accounts (c.obey.ensures.known says.asked (said_run _ c.in-Ok.order c.in-Ok.ensures.ok says.asked says.run))
 
-pub returns-in-Ok-clause-accounts : goal.returns-in-Ok-clause-accounts
-returns-in-Ok-clause-accounts g c = λ is. accounts_said _ c.in-Ok-Run.workers c.in-Ok-Run.queue c.in-Ok-Run.accounts c.in-Ok-Run.board (said_as c.in-Ok-Run.field-0-is c.in-Ok-Run.ensures.ok) (c.run_batch.ensures.accounts is)
+pub returns-in-Ok-staff_for-clause-complete : goal.returns-in-Ok-staff_for-clause-complete
+returns-in-Ok-staff_for-clause-complete g c = λ asked says states none.
+    let run = said_run _ c.in-Ok.order c.in-Ok.ensures.ok asked says in
+    complete_so asked (g.S.Source.left c.obey.new.src) (g.A.Source.left c.args.accounts_src.now) (g.A.Source.left c.obey.new.accounts_src) (g.S.Source.faults c.args.src.now) (g.S.Source.faults c.obey.new.src) (g.K.Sink.faults c.args.sink.now) (g.K.Sink.faults c.obey.new.sink) (g.A.Source.faults c.args.accounts_src.now) (g.A.Source.faults c.obey.new.accounts_src) (g.B.Sink.faults c.args.accounts_sink.now) (g.B.Sink.faults c.obey.new.accounts_sink)
+    (g.S.Source.left c.args.src.now) c.obey.result (record {
+      words = c.obey.ensures.bad;
+      read = λ is. or_asked c.in-Ok.order asked run (c.obey.ensures.read is);
+      write = λ is. or_asked c.in-Ok.order asked run (c.obey.ensures.write is);
+      large = c.obey.ensures.large;
+      accounts = λ is. let bad = c.obey.ensures.accounts is in (with_asked c.in-Ok.order asked run bad.0, bad.1);
+    }) states none
 
-pub returns-in-Ok-clause-refused_accounts : goal.returns-in-Ok-clause-refused_accounts
-returns-in-Ok-clause-refused_accounts g c = λ says.
-    let e = same_asked _ c.in-Ok-Run.workers c.in-Ok-Run.queue c.in-Ok-Run.accounts c.in-Ok-Run.board says.asked (said_as c.in-Ok-Run.field-0-is c.in-Ok-Run.ensures.ok) says.run in
-    refused_accounts_so c.in-Ok-Run.accounts (g.A.Source.left c.args.accounts_src.now) (g.A.Source.left c.run_batch.new.accounts_src) c.run_batch.result (ap (λ (a : Asked). a.accounts) e ∙ says.accounts) c.run_batch.ensures.known
+pub returns-in-Ok-staff_for-clause-refused : goal.returns-in-Ok-staff_for-clause-refused
+returns-in-Ok-staff_for-clause-refused g c = λ asked says states none.
+    let run = said_run _ c.in-Ok.order c.in-Ok.ensures.ok asked says in
+    refused_so asked (g.S.Source.left c.obey.new.src) (g.A.Source.left c.args.accounts_src.now) (g.A.Source.left c.obey.new.accounts_src) (g.S.Source.faults c.args.src.now) (g.S.Source.faults c.obey.new.src) (g.K.Sink.faults c.args.sink.now) (g.K.Sink.faults c.obey.new.sink) (g.A.Source.faults c.args.accounts_src.now) (g.A.Source.faults c.obey.new.accounts_src) (g.B.Sink.faults c.args.accounts_sink.now) (g.B.Sink.faults c.obey.new.accounts_sink)
+    (g.S.Source.left c.args.src.now) c.obey.result (record {
+      words = c.obey.ensures.bad;
+      read = λ is. or_asked c.in-Ok.order asked run (c.obey.ensures.read is);
+      write = λ is. or_asked c.in-Ok.order asked run (c.obey.ensures.write is);
+      large = c.obey.ensures.large;
+      accounts = λ is. let bad = c.obey.ensures.accounts is in (with_asked c.in-Ok.order asked run bad.0, bad.1);
+    })
+    (λ is. let d = c.obey.ensures.done asked run is in (d.all.input, d.all.whole.read, d.all.whole.to_end, d.all.whole.fits)) states none
 
-pub returns-in-Ok-clause-complete : goal.returns-in-Ok-clause-complete
-returns-in-Ok-clause-complete g c = λ asked says states none.
-    let e = same_asked _ c.in-Ok-Run.workers c.in-Ok-Run.queue c.in-Ok-Run.accounts c.in-Ok-Run.board asked (said_as c.in-Ok-Run.field-0-is c.in-Ok-Run.ensures.ok) says in
-    let causes = subst (λ (a : Asked). HasCauses a (g.S.Source.left c.args.src.now) (g.S.Source.left c.run_batch.new.src) (g.A.Source.left c.args.accounts_src.now) (g.A.Source.left c.run_batch.new.accounts_src)
-    (Rose (g.S.Source.faults c.args.src.now) (g.S.Source.faults c.run_batch.new.src)) (Rose (g.K.Sink.faults c.args.sink.now) (g.K.Sink.faults c.run_batch.new.sink)) (Rose (g.A.Source.faults c.args.accounts_src.now) (g.A.Source.faults c.run_batch.new.accounts_src)) (Rose (g.B.Sink.faults c.args.accounts_sink.now) (g.B.Sink.faults c.run_batch.new.accounts_sink)) c.run_batch.result) e
-    (record { words = c.run_batch.ensures.bad; read = c.run_batch.ensures.read; write = c.run_batch.ensures.write; large = c.run_batch.ensures.large; accounts = c.run_batch.ensures.accounts }) in
-    complete_so asked (g.S.Source.left c.run_batch.new.src) (g.A.Source.left c.args.accounts_src.now) (g.A.Source.left c.run_batch.new.accounts_src) (g.S.Source.faults c.args.src.now) (g.S.Source.faults c.run_batch.new.src) (g.K.Sink.faults c.args.sink.now) (g.K.Sink.faults c.run_batch.new.sink) (g.A.Source.faults c.args.accounts_src.now) (g.A.Source.faults c.run_batch.new.accounts_src) (g.B.Sink.faults c.args.accounts_sink.now) (g.B.Sink.faults c.run_batch.new.accounts_sink)
-    (g.S.Source.left c.args.src.now) c.run_batch.result causes states none
+pub returns-in-Ok-staff_for-clause-made : goal.returns-in-Ok-staff_for-clause-made
+returns-in-Ok-staff_for-clause-made g c = λ seed jobs says. c.obey.ensures.made seed jobs (said_make _ c.in-Ok.order c.in-Ok.ensures.ok seed jobs says)
 
-pub returns-in-Ok-clause-refused : goal.returns-in-Ok-clause-refused
-returns-in-Ok-clause-refused g c = λ asked says states none.
-    let e = same_asked _ c.in-Ok-Run.workers c.in-Ok-Run.queue c.in-Ok-Run.accounts c.in-Ok-Run.board asked (said_as c.in-Ok-Run.field-0-is c.in-Ok-Run.ensures.ok) says in
-    let causes = subst (λ (a : Asked). HasCauses a (g.S.Source.left c.args.src.now) (g.S.Source.left c.run_batch.new.src) (g.A.Source.left c.args.accounts_src.now) (g.A.Source.left c.run_batch.new.accounts_src)
-    (Rose (g.S.Source.faults c.args.src.now) (g.S.Source.faults c.run_batch.new.src)) (Rose (g.K.Sink.faults c.args.sink.now) (g.K.Sink.faults c.run_batch.new.sink)) (Rose (g.A.Source.faults c.args.accounts_src.now) (g.A.Source.faults c.run_batch.new.accounts_src)) (Rose (g.B.Sink.faults c.args.accounts_sink.now) (g.B.Sink.faults c.run_batch.new.accounts_sink)) c.run_batch.result) e
-    (record { words = c.run_batch.ensures.bad; read = c.run_batch.ensures.read; write = c.run_batch.ensures.write; large = c.run_batch.ensures.large; accounts = c.run_batch.ensures.accounts }) in
-    refused_so asked (g.S.Source.left c.run_batch.new.src) (g.A.Source.left c.args.accounts_src.now) (g.A.Source.left c.run_batch.new.accounts_src) (g.S.Source.faults c.args.src.now) (g.S.Source.faults c.run_batch.new.src) (g.K.Sink.faults c.args.sink.now) (g.K.Sink.faults c.run_batch.new.sink) (g.A.Source.faults c.args.accounts_src.now) (g.A.Source.faults c.run_batch.new.accounts_src) (g.B.Sink.faults c.args.accounts_sink.now) (g.B.Sink.faults c.run_batch.new.accounts_sink)
-    (g.S.Source.left c.args.src.now) c.run_batch.result causes
-    (λ is. let d = c.run_batch.ensures.done is in (d.all.input, d.all.whole.read, d.all.whole.to_end, d.all.whole.fits)) states none
+pub returns-in-Ok-staff_for-clause-statement : goal.returns-in-Ok-staff_for-clause-statement
+returns-in-Ok-staff_for-clause-statement g c = λ name says. c.obey.ensures.statement name (said_statement _ c.in-Ok.order c.in-Ok.ensures.ok name says)
 
-pub returns-in-Ok-clause-made : goal.returns-in-Ok-clause-made
-returns-in-Ok-clause-made g c = λ seed jobs says. absurd (not_made _ _ _ _ _ seed jobs (said_as c.in-Ok-Run.field-0-is c.in-Ok-Run.ensures.ok) says)
+pub returns-in-Ok-staff_for-clause-stated : goal.returns-in-Ok-staff_for-clause-stated
+returns-in-Ok-staff_for-clause-stated g c = λ name says. c.obey.ensures.stated name (said_statement _ c.in-Ok.order c.in-Ok.ensures.ok name says)
 
-pub returns-in-Ok-new-clause-done : goal.returns-in-Ok-new-clause-done
-returns-in-Ok-new-clause-done g c = λ asked says. absurd (not_run _ _ _ _ _ asked (said_as c.in-Ok-Make.field-0-is c.in-Ok-Make.ensures.ok) says)
+-- ---- memory was wanting for the workers
 
-pub returns-in-Ok-new-clause-board : goal.returns-in-Ok-new-clause-board
-returns-in-Ok-new-clause-board g c = λ asked says. absurd (not_run _ _ _ _ _ asked (said_as c.in-Ok-Make.field-0-is c.in-Ok-Make.ensures.ok) says)
+pub returns-in-Err-clause-cut : goal.returns-in-Err-clause-cut
+returns-in-Err-clause-cut g c = λ asked says n. cut_or (nothing_done asked (g.S.Source.left c.args.src.now) (g.K.Sink.written c.args.sink.now) (g.A.Source.left c.args.accounts_src.now)) refl refl
 
-pub returns-in-Ok-new-clause-cut : goal.returns-in-Ok-new-clause-cut
-returns-in-Ok-new-clause-cut g c = λ asked says. absurd (not_run _ _ _ _ _ asked (said_as c.in-Ok-Make.field-0-is c.in-Ok-Make.ensures.ok) says)
+pub returns-in-Err-clause-made : goal.returns-in-Err-clause-made
+returns-in-Err-clause-made g c = λ seed jobs says. (nothing_made seed jobs (g.K.Sink.written c.args.sink.now), refl, refl, refl)
 
-pub returns-in-Ok-new-clause-refused : goal.returns-in-Ok-new-clause-refused
-returns-in-Ok-new-clause-refused g c = λ asked says. absurd (not_run _ _ _ _ _ asked (said_as c.in-Ok-Make.field-0-is c.in-Ok-Make.ensures.ok) says)
+pub returns-in-Err-clause-statement : goal.returns-in-Err-clause-statement
+returns-in-Err-clause-statement g c = λ name says. (nothing_stated name (g.S.Source.left c.args.src.now) (g.K.Sink.written c.args.sink.now) refl, refl, refl)
 
-pub returns-in-Ok-new-clause-refused_accounts : goal.returns-in-Ok-new-clause-refused_accounts
-returns-in-Ok-new-clause-refused_accounts g c = λ says. absurd (not_run _ _ _ _ _ says.asked (said_as c.in-Ok-Make.field-0-is c.in-Ok-Make.ensures.ok) says.run)
+pub returns-in-Err-clause-stated : goal.returns-in-Err-clause-stated
+returns-in-Err-clause-stated g c = λ name says cards text. none_ends (g.S.Source.left c.args.src.now)
 
-pub returns-in-Ok-new-clause-made : goal.returns-in-Ok-new-clause-made
-returns-in-Ok-new-clause-made g c = λ s j says. (
-  made_after c.run_made.result c.in-Ok-Make.seed c.in-Ok-Make.jobs s j (g.K.Sink.written c.args.sink.now) (g.K.Sink.written c.run_made.new.sink) c.status_after.result
-      (same_made _ _ _ _ _ s j (said_as c.in-Ok-Make.field-0-is c.in-Ok-Make.ensures.ok) says) c.status_after.ensures c.run_made.ensures.done c.run_made.ensures.cut c.run_made.ensures.read c.run_made.ensures.large,
-  refl,
-  refl,
-  refl,
-)
+-- ---- the words say none
 
 pub returns-in-Err-BadWords-clause-bad : goal.returns-in-Err-BadWords-clause-bad
 returns-in-Err-BadWords-clause-bad g c = λ is. c.in-Err-BadWords.ensures.bad (ap (λ (e : WordsError). Err e) c.in-Err-BadWords.field-0-is)
@@ -129,20 +112,22 @@ returns-in-Err-BadWords-clause-refused_accounts g c = λ says. absurd (c.in-Err-
 pub returns-in-Err-BadWords-clause-made : goal.returns-in-Err-BadWords-clause-made
 returns-in-Err-BadWords-clause-made g c = λ seed jobs says. absurd (c.in-Err-BadWords.ensures.bad (ap (λ (e : WordsError). Err e) c.in-Err-BadWords.field-0-is) _ says.order)
 
-pub returns-in-Err-clause-cut : goal.returns-in-Err-clause-cut
-returns-in-Err-clause-cut g c = λ asked says n. cut_or (nothing_done asked (g.S.Source.left c.args.src.now) (g.K.Sink.written c.args.sink.now) (g.A.Source.left c.args.accounts_src.now)) refl refl
+pub returns-in-Err-BadWords-clause-statement : goal.returns-in-Err-BadWords-clause-statement
+returns-in-Err-BadWords-clause-statement g c = λ name says. absurd (c.in-Err-BadWords.ensures.bad (ap (λ (e : WordsError). Err e) c.in-Err-BadWords.field-0-is) _ says.order)
 
-pub returns-in-Err-clause-made : goal.returns-in-Err-clause-made
-returns-in-Err-clause-made g c = λ seed jobs says. (nothing_made seed jobs (g.K.Sink.written c.args.sink.now), refl, refl, refl)
+pub returns-in-Err-BadWords-clause-stated : goal.returns-in-Err-BadWords-clause-stated
+returns-in-Err-BadWords-clause-stated g c = λ name says. absurd (c.in-Err-BadWords.ensures.bad (ap (λ (e : WordsError). Err e) c.in-Err-BadWords.field-0-is) _ says.order)
 
-pub returns-in-Err-new-clause-cut : goal.returns-in-Err-new-clause-cut
-returns-in-Err-new-clause-cut g c = λ asked says n. cut_or (nothing_done asked (g.S.Source.left c.args.src.now) (g.K.Sink.written c.args.sink.now) (g.A.Source.left c.args.accounts_src.now)) refl refl
-
-pub returns-in-Err-new-clause-made : goal.returns-in-Err-new-clause-made
-returns-in-Err-new-clause-made g c = λ seed jobs says. (nothing_made seed jobs (g.K.Sink.written c.args.sink.now), refl, refl, refl)
+-- ---- memory was wanting for the words
 
 pub returns-in-Err-NoMemory-clause-cut : goal.returns-in-Err-NoMemory-clause-cut
 returns-in-Err-NoMemory-clause-cut g c = λ asked says n. cut_or (nothing_done asked (g.S.Source.left c.args.src.now) (g.K.Sink.written c.args.sink.now) (g.A.Source.left c.args.accounts_src.now)) refl refl
 
 pub returns-in-Err-NoMemory-clause-made : goal.returns-in-Err-NoMemory-clause-made
 returns-in-Err-NoMemory-clause-made g c = λ seed jobs says. (nothing_made seed jobs (g.K.Sink.written c.args.sink.now), refl, refl, refl)
+
+pub returns-in-Err-NoMemory-clause-statement : goal.returns-in-Err-NoMemory-clause-statement
+returns-in-Err-NoMemory-clause-statement g c = λ name says. (nothing_stated name (g.S.Source.left c.args.src.now) (g.K.Sink.written c.args.sink.now) refl, refl, refl)
+
+pub returns-in-Err-NoMemory-clause-stated : goal.returns-in-Err-NoMemory-clause-stated
+returns-in-Err-NoMemory-clause-stated g c = λ name says cards text. none_ends (g.S.Source.left c.args.src.now)

@@ -14,7 +14,7 @@ returns-in_err-served-clause-large g c = λ is.
 
 pub returns-clause-tally : goal.returns-clause-tally
 returns-clause-tally g c =
-    let served = c.in_ok-served.ensures.ok in
+    let served = c.in_ok-served.ensures.ok.served in
     c.in_ok-listing.ensures
     ∙ ap (λ (t : Tally). record t { bytes = t.bytes + length c.as_slice.result.now }) c.tally-sections.ensures
     ∙ tally_is _ _ _ _ served c.args.src.left c.as_slice.result.now refl (c.as_slice.ensures.value ∙ c.in_ok-closing.ensures (batch served.input).jobs served.behind ∙ closing_is None _ _ _ _ served)

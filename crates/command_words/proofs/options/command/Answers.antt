@@ -18,5 +18,6 @@ returns c =
     let second = c.in_ok-arg-2.ensures.shape c.option-2.ensures.global ∙ ap₂ with_rule first c.option-2.ensures.rule in
     let third = c.in_ok-arg-3.ensures.shape c.option-3.ensures.global ∙ ap₂ with_rule second c.option-3.ensures.rule in
     let fourth = c.in_ok-arg-4.ensures.shape c.option-4.ensures.global ∙ ap₂ with_rule third c.option-4.ensures.rule in
-    let fifth = c.in_ok-arg-5.ensures.shape c.flag.ensures.global ∙ ap₂ with_rule fourth c.flag.ensures.rule in
-    IfOk-weaker c.arg-6.result _ _ (λ m h. h.shape c.flag-2.ensures.global ∙ ap₂ with_rule fifth c.flag-2.ensures.rule) c.arg-6.ensures
+    let fifth = c.in_ok-arg-5.ensures.shape c.option-5.ensures.global ∙ ap₂ with_rule fourth c.option-5.ensures.rule in
+    let sixth = c.in_ok-arg-6.ensures.shape c.flag.ensures.global ∙ ap₂ with_rule fifth c.flag.ensures.rule in
+    IfOk-weaker c.arg-7.result _ _ (λ m h. h.shape c.flag-2.ensures.global ∙ ap₂ with_rule sixth c.flag-2.ensures.rule) c.arg-7.ensures

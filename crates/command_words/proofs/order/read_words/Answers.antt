@@ -30,7 +30,7 @@ returns-in-Some-clause-ok c =
     let plain = sym (dashes_here c.args.words.now) ∙ sym c.has_dashes.ensures ∙ c.if-has_dashes.false in
     let accounts = accounts_is f words c.get_flag-accounts.result plain c.in-Ok.ensures.ok.0 c.in-Ok.ensures.ok.1 c.get_flag-accounts.ensures.value c.get_flag-accounts.ensures.other in
     let board = board_is f words c.get_flag-board.result plain c.in-Ok.ensures.ok.0 c.in-Ok.ensures.ok.1 c.get_flag-board.ensures.value c.get_flag-board.ensures.other in
-    let r = assembled words _ _ _ _ _ _ _ _ c.order_from.result (c.get_str-make.ensures ∙ text (codes "make")) (c.get_str-jobs.ensures ∙ text (codes "jobs"))
+    let r = assembled words _ _ _ _ _ _ _ _ _ c.order_from.result (c.get_str-make.ensures ∙ text (codes "make")) (c.get_str-jobs.ensures ∙ text (codes "jobs")) (c.get_str-statement.ensures ∙ text (codes "statement"))
     (c.get_str.ensures ∙ text (codes "workers")) (c.get_str-2.ensures ∙ text (codes "queue")) accounts board c.number_or-workers.ensures c.number_or-queue.ensures c.order_from.ensures in
     given_is_order words c.in-Some.order plain c.in-Ok.ensures.ok.0 (sym r ∙ c.in-Some.is)
 
@@ -42,7 +42,7 @@ returns-clause-bad c = λ e o h.
     let plain = sym (dashes_here c.args.words.now) ∙ sym c.has_dashes.ensures ∙ c.if-has_dashes.false in
     let accounts = accounts_is f words c.get_flag-accounts.result plain c.in-Ok.ensures.ok.0 c.in-Ok.ensures.ok.1 c.get_flag-accounts.ensures.value c.get_flag-accounts.ensures.other in
     let board = board_is f words c.get_flag-board.result plain c.in-Ok.ensures.ok.0 c.in-Ok.ensures.ok.1 c.get_flag-board.ensures.value c.get_flag-board.ensures.other in
-    let r = assembled words _ _ _ _ _ _ _ _ c.order_from.result (c.get_str-make.ensures ∙ text (codes "make")) (c.get_str-jobs.ensures ∙ text (codes "jobs"))
+    let r = assembled words _ _ _ _ _ _ _ _ _ c.order_from.result (c.get_str-make.ensures ∙ text (codes "make")) (c.get_str-jobs.ensures ∙ text (codes "jobs")) (c.get_str-statement.ensures ∙ text (codes "statement"))
     (c.get_str.ensures ∙ text (codes "workers")) (c.get_str-2.ensures ∙ text (codes "queue")) accounts board c.number_or-workers.ensures c.number_or-queue.ensures c.order_from.ensures in
     let bad : None ≡ Some o = sym c.in-None.is ∙ r ∙ order_is_given words o h in
     cc

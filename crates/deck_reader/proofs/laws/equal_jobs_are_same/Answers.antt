@@ -1,4 +1,4 @@
-use Rattle.deck_reader.specs.JobEqualityLaws.{equal_jobs_are_same}
+use Rattle.deck_reader.specs.JobEquality.{equal_jobs_are_same}
 use Rattle.deck_reader.proofs.laws.equal_jobs_are_same.Goals as goal
 
 pub returns : goal.returns

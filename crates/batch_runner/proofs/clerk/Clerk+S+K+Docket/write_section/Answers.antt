@@ -14,11 +14,17 @@ returns-in_err-section-clause-err g c =
     c.from_residual.ensures.1
     (stops_anywhere _ _ c.requires.free refl refl)
 
+pub returns-in_err-keep-clause-err : goal.returns-in_err-keep-clause-err
+returns-in_err-keep-clause-err g c =
+    at_this c.from_residual-in_err-keep.result NoMemory (λ halt. GoesOn _ (progress (record c.args.self.now.docket { audit = c.section.new.self; desk = c.section.new.desk; decisions = c.keep.new.decisions; halt = Some halt }) (outside (g.S.Source.left c.args.self.now.src.now) (g.S.Source.faults c.args.self.now.src.now) (g.K.Sink.written c.args.self.now.sink.now) (g.K.Sink.faults c.args.self.now.sink.now))))
+    c.from_residual-in_err-keep.ensures.1
+    (stops_anywhere _ _ c.requires.free refl refl)
+
 pub returns-in_err-write_all_of-clause-err : goal.returns-in_err-write_all_of-clause-err
 returns-in_err-write_all_of-clause-err g c =
     let items = c.args.self.now.docket.intake.jobs.items in
     let job : JobView = c.index-job.result.now.value in
-    at_this c.from_residual-in_err-write_all_of.result WriteFault (λ halt. GoesOn _ (progress (record c.args.self.now.docket { audit = c.section.new.self; desk = c.section.new.desk; halt = Some halt }) (outside (g.S.Source.left c.args.self.now.src.now) (g.S.Source.faults c.args.self.now.src.now) (g.K.Sink.written c.write_all_of.new.sink) (g.K.Sink.faults c.write_all_of.new.sink))))
+    at_this c.from_residual-in_err-write_all_of.result WriteFault (λ halt. GoesOn _ (progress (record c.args.self.now.docket { audit = c.section.new.self; desk = c.section.new.desk; decisions = c.keep.new.decisions; halt = Some halt }) (outside (g.S.Source.left c.args.self.now.src.now) (g.S.Source.faults c.args.self.now.src.now) (g.K.Sink.written c.write_all_of.new.sink) (g.K.Sink.faults c.write_all_of.new.sink))))
     c.from_residual-in_err-write_all_of.ensures.1
     (halts_next _ _ job (map (λ j. j.value) (drop (c.args.self.now.docket.written + 1) items)) c.as_slice.result.now (record {
       free = c.requires.free;
@@ -49,6 +55,7 @@ returns-clause-ok g c =
       count = refl;
       behind = c.in_ok-section.ensures.behind;
       tally = c.in_ok-section.ensures.tally;
+      decided = λ earlier h. c.in_ok-keep.ensures _ (c.decision.ensures ∙ c.in_ok-section.ensures.last earlier h);
       wrote = c.in_ok-write_all_of.ensures.ok;
       faults = c.in_ok-write_all_of.ensures.cause.same;
     })

@@ -4,7 +4,7 @@ use Rattle.std.proofs.lemmas.Bool.{eqb-true, false≢true}
 use Rattle.std.proofs.lemmas.Bool.Decides.{nat_tests}
 use Rattle.deck_reader.specs.JobView.{JobView}
 use Rattle.account_book.specs.Charges.{reserve}
-use Rattle.deck_reader.specs.JobEqualityLaws.{equal_jobs_are_same}
+use Rattle.deck_reader.specs.JobEquality.{equal_jobs_are_same}
 use Rattle.office.proofs.Running.{is_own, own_amount, own_job}
 use Rattle.office.proofs.register.Register.is_running.Goals as goal
 

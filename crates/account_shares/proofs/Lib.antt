@@ -1,0 +1,9 @@
+pub mod Money
+pub mod Cut
+pub mod Bytes
+pub mod Sameness
+pub mod Nights
+pub mod Shares
+pub mod Cards
+pub mod SharesOfNights
+pub mod Statements

@@ -1,0 +1,4 @@
+pub mod Balances
+pub mod Adding
+pub mod Stating
+pub mod Alike
