@@ -14,7 +14,7 @@ use Rattle.program_meaning.specs.Phrases.{Phrase}
 use Rattle.stack_code.specs.CodeView.{CodeFits, formal_view, Given, InstrFits, ProcedureFits, TextFits, mode_view, statement_view}
 use Rattle.stack_code.specs.Linking.{instruction_at}
 use Rattle.stack_code.specs.Making.{coded_at, with_call, with_procedure, with_replaced, with_stars, with_string, with_text}
-use Rattle.stack_code.specs.declared.heads.ComparedCall.{ComparedCall}
+use Rattle.stack_code.specs.Calls.{ComparedCall}
 use Rattle.stack_code.specs.declared.heads.ProcedureHead.{ProcedureHead}
 use Rattle.stack_code.specs.declared.heads.Stars.{Stars}
 use Rattle.stack_code.specs.declared.heads.TextHead.{TextHead}

@@ -14,7 +14,7 @@ use Rattle.stack_code.specs.CodeView.{Added, CodeFits, coded_view}
 use Rattle.stack_code.specs.Instr as instr
 use Rattle.stack_code.specs.Linking.{linked_added, linked_coded}
 use Rattle.stack_code.specs.Making.{coded_at, with_added, with_call, with_procedure, with_replaced, with_stars, with_string, with_text}
-use Rattle.stack_code.specs.declared.heads.ComparedCall.{ComparedCall}
+use Rattle.stack_code.specs.Calls.{ComparedCall}
 use Rattle.stack_code.specs.declared.heads.ProcedureHead.{ProcedureHead}
 use Rattle.stack_code.specs.declared.heads.Stars.{Stars}
 use Rattle.stack_code.specs.declared.heads.TextHead.{TextHead}

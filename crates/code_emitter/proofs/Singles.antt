@@ -14,7 +14,7 @@ use Rattle.stack_code.specs.CodeView.{Added, CodeFits, InstrFits, KindFits, Kind
 use Rattle.stack_code.specs.Instr as instr
 use Rattle.stack_code.specs.Linking.{instruction_at, linked_added, linked_reading, linked_source}
 use Rattle.stack_code.specs.Making.{with_call, with_string}
-use Rattle.stack_code.specs.declared.heads.ComparedCall.{ComparedCall}
+use Rattle.stack_code.specs.Calls.{ComparedCall}
 use Rattle.stack_code.specs.declared.instructions.Constant.TheVariants as constant
 use Rattle.stack_code.specs.declared.instructions.Instr.{Instr}
 use Rattle.stack_code.specs.declared.instructions.Instr.TheVariants as held

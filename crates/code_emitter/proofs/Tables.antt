@@ -9,7 +9,7 @@ use Rattle.stack_code.specs.CodeView.{Added, CallView, CodeFits, CodeView, Const
 use Rattle.stack_code.specs.Instr as instr
 use Rattle.stack_code.specs.Linking.{linked_added, linked_call, linked_coded, linked_instr, linked_text}
 use Rattle.stack_code.specs.Making.{with_added, with_call, with_procedure, with_stars, with_string, with_text}
-use Rattle.stack_code.specs.declared.heads.ComparedCall.{ComparedCall}
+use Rattle.stack_code.specs.Calls.{ComparedCall}
 use Rattle.stack_code.specs.declared.heads.ProcedureHead.{ProcedureHead}
 use Rattle.stack_code.specs.declared.heads.Stars.{Stars}
 use Rattle.stack_code.specs.declared.heads.TextHead.{TextHead}

@@ -85,13 +85,13 @@ abbrev pub with_thunk : Emitter → Here → ℕ → Option SimpleType → Bool 
 with_thunk e here head t is_variable = appended (appended e here (held.MakeThunk is_variable t head)) here held.Push
 
 -- a call that compares, whose actuals' texts have these heads
-abbrev pub with_compared : Emitter → Source → Vec ℕ Global → ℕ → Emitter
+abbrev pub with_compared : Emitter → Source → List ℕ → ℕ → Emitter
 with_compared e source heads end = record e { code = with_call e.code (record { source = source; compares = true; heads = heads; end = end }) }
 
 -- such a call is added
 pub record Compares (old new : Emitter) (source : Source) (texts : List ℕ) (end : ℕ) : Type 0 where
-  pub heads : Vec ℕ Global
-  pub are : heads.items ≡ texts
+  pub heads : List ℕ
+  pub are : heads ≡ texts
   pub added : new ≡ with_compared old source heads end
 
 -- ---- targets

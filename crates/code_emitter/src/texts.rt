@@ -121,11 +121,7 @@ impl Emitter {
         for head in &self.pending[pending..] {
             heads.push(*head)?;
         }
-        self.code.add_call(ComparedCall {
-            source,
-            compares: true,
-            heads,
-            end,
-        })
+        let call = ComparedCall::new(source, true, heads, end, self.alloc)?;
+        self.code.add_call(call)
     }
 }

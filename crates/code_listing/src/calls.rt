@@ -92,19 +92,19 @@ pub(crate) fn push_compare(out: &mut String, code: &Code, call: u32) -> Result<(
     requires { call < length code.now.added.calls }
 {
     let compared = code.call(call);
-    let front = if compared.compares {
+    let front = if compared.compares() {
         "Compare "
     } else {
         "Compare nothing "
     };
-    push_source(out, front, compared.source)?;
+    push_source(out, front, compared.source())?;
     out.push_str(" (")?;
     let mut front = "";
-    for head in &compared.heads {
+    for head in compared.heads() {
         write!(out, "{front}@{head}")?;
         front = ", ";
     }
-    let end = compared.end;
+    let end = compared.end();
     write!(out, ") @{end}")
 }
 
@@ -119,8 +119,8 @@ pub(crate) fn push_prepare(
     requires formal { formal < length (call_of code.now.added call).heads }
 {
     let compared = code.call(call);
-    let head = compared.heads[formal as usize];
-    push_source(out, "Prepare ", compared.source)?;
+    let head = compared.heads()[formal as usize];
+    push_source(out, "Prepare ", compared.source())?;
     write!(out, " {formal} @{head}")
 }
 
@@ -133,6 +133,6 @@ pub(crate) fn push_call_through(
 ) -> Result<(), AllocError>
     requires { call < length code.now.added.calls }
 {
-    push_source(out, "CallThrough ", code.call(call).source)?;
+    push_source(out, "CallThrough ", code.call(call).source())?;
     push_place(out, " ", site)
 }

@@ -12,7 +12,7 @@ use Rattle.cell_store.specs.Words as word
 use Rattle.cell_store.specs.declared.cells.Wide.TheVariants as wide
 use Rattle.cell_store.specs.Cells.{Cell, a_word, a_wide, wide_in}
 use Rattle.program_meaning.specs.State.{by_fault}
-use Rattle.stack_code.specs.declared.heads.ComparedCall.{ComparedCall}
+use Rattle.stack_code.specs.Calls.{ComparedCall}
 use Rattle.stack_code.specs.declared.heads.ProcedureHead.{ProcedureHead}
 use Rattle.stack_code.specs.declared.instructions.Source.{Source}
 use Rattle.stack_code.specs.declared.instructions.Instr.TheVariants as instr
@@ -117,7 +117,7 @@ module _ (v : Seen) (s : State) (h : Held) (st : Stands v s) (w : Place) (heads 
     unfit_row t = by_test false t
 
 -- the row of a call that compares
-pub compare_is : (v : Seen) (s : State) (h : Held) (st : Stands v s) (n : ℕ) (k : ComparedCall) → call_of v.code.added n ≡ call_view k → row_of v 0 (instr.Compare n) (machine_of v s h) ≡ compare_row v s h st (statement_view v.code.given 0) k.compares k.heads.items k.end k.source
+pub compare_is : (v : Seen) (s : State) (h : Held) (st : Stands v s) (n : ℕ) (k : ComparedCall) → call_of v.code.added n ≡ call_view k → row_of v 0 (instr.Compare n) (machine_of v s h) ≡ compare_row v s h st (statement_view v.code.given 0) k.compares k.heads k.end k.source
 compare_is v s h st n k e = ap (λ (z : CallView). (source_out z.source >>= table.compare v.setting (code_view v.code) (statement_view v.code.given 0) z.compares z.heads z.end) (machine_of v s h)) e
 
 -- ---- as the code has it
@@ -131,13 +131,13 @@ module _ (v : Seen) (s : State) (h : Held) (st : Stands v s) (k : ComparedCall) 
     the_row = fitting.compare_row v k (wide.Procedure p) (machine_of v s h)
 
     abbrev pub the_head : (q : ProcedureHead) × (found.procedure_at v.code p.head ≡ Some q)
-    the_head = procedure_there v s h st w0 k.compares k.heads.items k.end p clear
+    the_head = procedure_there v s h st w0 k.compares k.heads k.end p clear
 
-    row_is : the_row ≡ (table.compared (instructions_view v.code) w0 k.compares k.heads.items (procedure_view v.code.given the_head.0) >> go_on) (machine_of v s h)
-    row_is = procedure_is v s h st w0 k.compares k.heads.items k.end p the_head.0 the_head.1
+    row_is : the_row ≡ (table.compared (instructions_view v.code) w0 k.compares k.heads (procedure_view v.code.given the_head.0) >> go_on) (machine_of v s h)
+    row_is = procedure_is v s h st w0 k.compares k.heads k.end p the_head.0 the_head.1
 
-    row_by : (b : Bool) → k.compares ≡ b → the_row ≡ (table.compared (instructions_view v.code) w0 b k.heads.items (procedure_view v.code.given the_head.0) >> go_on) (machine_of v s h)
-    row_by b e = row_is ∙ ap (λ (z : Bool). (table.compared (instructions_view v.code) w0 z k.heads.items (procedure_view v.code.given the_head.0) >> go_on) (machine_of v s h)) e
+    row_by : (b : Bool) → k.compares ≡ b → the_row ≡ (table.compared (instructions_view v.code) w0 b k.heads (procedure_view v.code.given the_head.0) >> go_on) (machine_of v s h)
+    row_by b e = row_is ∙ ap (λ (z : Bool). (table.compared (instructions_view v.code) w0 z k.heads (procedure_view v.code.given the_head.0) >> go_on) (machine_of v s h)) e
 
     on_done : the_row ≡ on tt (machine_of (record v { pc = v.pc + 1 }) s h) → (pc : ℕ) → v.pc ≡ pc → (r : next.Next) → r ≡ comes.On (record { pc = pc + 1; held = h }) → Goes v s h r the_row
     on_done e pc pe r re = subst (λ (x : next.Next). Goes v s h x the_row) (sym (re ∙ ap (λ n. comes.On (record { pc = n + 1; held = h })) (sym pe))) (record { is = e; stands = st })
@@ -147,29 +147,29 @@ module _ (v : Seen) (s : State) (h : Held) (st : Stands v s) (k : ComparedCall) 
     plain_done e = on_done (row_by false e)
 
     module _ (e : k.compares ≡ true) where
-      pub clear_fit : IsClear (fit_row v s h st w0 k.heads.items the_head.0)
+      pub clear_fit : IsClear (fit_row v s h st w0 k.heads the_head.0)
       clear_fit = subst IsClear (row_by true e) clear
 
-      abbrev ps : (ps : List typing.Part) × (fitting.parts v.code s.store the_head.0.formals.items k.heads.items ≡ Some ps)
-      ps = parts_there v s h st w0 k.heads.items the_head.0 clear_fit
+      abbrev ps : (ps : List typing.Part) × (fitting.parts v.code s.store the_head.0.formals.items k.heads ≡ Some ps)
+      ps = parts_there v s h st w0 k.heads the_head.0 clear_fit
 
       -- its actuals are read
-      abbrev pub the_parts : (ps : List typing.Part) × (fitting.parts v.code s.store (found.formals_of (found.procedure_at v.code p.head)) k.heads.items ≡ Some ps)
-      the_parts = (ps.0, ap (λ o. fitting.parts v.code s.store (found.formals_of o) k.heads.items) the_head.1 ∙ ps.1)
+      abbrev pub the_parts : (ps : List typing.Part) × (fitting.parts v.code s.store (found.formals_of (found.procedure_at v.code p.head)) k.heads ≡ Some ps)
+      the_parts = (ps.0, ap (λ o. fitting.parts v.code s.store (found.formals_of o) k.heads) the_head.1 ∙ ps.1)
 
       abbrev Answers : Bool → Type 0
-      Answers b = IfSome (fitting.parts v.code s.store (found.formals_of (found.procedure_at v.code p.head)) k.heads.items) (λ ps. (w : Place) → fitting.they_fit v.code.given w (found.formals_of (found.procedure_at v.code p.head)) (length k.heads.items) ps ≡ b)
+      Answers b = IfSome (fitting.parts v.code s.store (found.formals_of (found.procedure_at v.code p.head)) k.heads) (λ ps. (w : Place) → fitting.they_fit v.code.given w (found.formals_of (found.procedure_at v.code p.head)) (length k.heads) ps ≡ b)
 
-      answered : (b : Bool) → Answers b → fitting.they_fit v.code.given w0 the_head.0.formals.items (length k.heads.items) ps.0 ≡ b
-      answered b a = subst (λ o. fitting.they_fit v.code.given w0 (found.formals_of o) (length k.heads.items) ps.0 ≡ b) the_head.1 (at_parts w0) where
-        at_parts : (w : Place) → fitting.they_fit v.code.given w (found.formals_of (found.procedure_at v.code p.head)) (length k.heads.items) ps.0 ≡ b
-        at_parts = subst (λ o. IfSome o (λ ps. (w : Place) → fitting.they_fit v.code.given w (found.formals_of (found.procedure_at v.code p.head)) (length k.heads.items) ps ≡ b)) the_parts.1 a
+      answered : (b : Bool) → Answers b → fitting.they_fit v.code.given w0 the_head.0.formals.items (length k.heads) ps.0 ≡ b
+      answered b a = subst (λ o. fitting.they_fit v.code.given w0 (found.formals_of o) (length k.heads) ps.0 ≡ b) the_head.1 (at_parts w0) where
+        at_parts : (w : Place) → fitting.they_fit v.code.given w (found.formals_of (found.procedure_at v.code p.head)) (length k.heads) ps.0 ≡ b
+        at_parts = subst (λ o. IfSome o (λ ps. (w : Place) → fitting.they_fit v.code.given w (found.formals_of (found.procedure_at v.code p.head)) (length k.heads) ps ≡ b)) the_parts.1 a
 
       pub fit_done : Answers true → (pc : ℕ) → v.pc ≡ pc → (r : next.Next) → r ≡ comes.On (record { pc = pc + 1; held = h }) → Goes v s h r the_row
-      fit_done a = on_done (row_by true e ∙ they_fit_row v s h st w0 k.heads.items the_head.0 ps.0 ps.1 (answered true a))
+      fit_done a = on_done (row_by true e ∙ they_fit_row v s h st w0 k.heads the_head.0 ps.0 ps.1 (answered true a))
 
       pub unfit_done : Answers false → Goes v s h (comes.Halted (halt.Fault fault.ActualsDoNotFit)) the_row
-      unfit_done a = record { is = row_by true e ∙ unfit_row v s h st w0 k.heads.items the_head.0 ps.0 ps.1 (answered false a); stands = st }
+      unfit_done a = record { is = row_by true e ∙ unfit_row v s h st w0 k.heads the_head.0 ps.0 ps.1 (answered false a); stands = st }
 
   -- ---- a copied actual
 
@@ -177,15 +177,15 @@ module _ (v : Seen) (s : State) (h : Held) (st : Stands v s) (k : ComparedCall) 
     abbrev thunk_row : Next (Unit {0})
     thunk_row = fitting.compare_row v k (wide.Thunk t) (machine_of v s h)
 
-    pub bare_use : k.heads.items ≡ [] → thunk_row ≡ use_row v s h k.end t purpose.Value
+    pub bare_use : k.heads ≡ [] → thunk_row ≡ use_row v s h k.end t purpose.Value
     bare_use e = ap (λ heads. table.use_without v.setting v.code.marks k.end heads (thunk_of v.code.given t) (machine_of v s h)) e
 
     some_heads : (heads : List ℕ) → heads ≢ [] → table.use_without v.setting v.code.marks k.end heads (thunk_of v.code.given t) (machine_of v s h) ≡ halted (by_fault fault.ActualsDoNotFit) (machine_of v s h)
     some_heads [] n = absurd (n refl)
     some_heads (x ∷ heads) n = refl
 
-    pub with_heads : k.heads.items ≢ [] → Goes v s h (comes.Halted (halt.Fault fault.ActualsDoNotFit)) thunk_row
-    with_heads n = record { is = some_heads k.heads.items n; stands = st }
+    pub with_heads : k.heads ≢ [] → Goes v s h (comes.Halted (halt.Fault fault.ActualsDoNotFit)) thunk_row
+    with_heads n = record { is = some_heads k.heads n; stands = st }
 
 -- no heads
 pub none_by : (xs : List ℕ) → length xs ≡ 0 → xs ≡ []
@@ -203,16 +203,16 @@ wide_cell (Some (a_wide x)) w e = ap (λ o. option_map a_wide o) e
 
 module _ (v : Seen) (s : State) (h : Held) (st : Stands v s) (n : ℕ) (k : ComparedCall) (e : call_of v.code.added n ≡ call_view k) where
   pub called_there : IsClear (row_of v 0 (instr.Compare n) (machine_of v s h)) → (c : Cell) × (found.source_out s.store k.source ≡ Some c)
-  called_there clear = compare_there v s h st (statement_view v.code.given 0) k.compares k.heads.items k.end k.source (subst IsClear (compare_is v s h st n k e) clear)
+  called_there clear = compare_there v s h st (statement_view v.code.given 0) k.compares k.heads k.end k.source (subst IsClear (compare_is v s h st n k e) clear)
 
   pub called_by : (o : Option Wide) (x : Wide) (w : Wide) → o ≡ found.wide_out s.store k.source → o ≡ Some x → x ≡ w → found.source_out s.store k.source ≡ Some (a_wide w)
   called_by o x w a b d = wide_cell (found.source_out s.store k.source) w (sym a ∙ b ∙ ap (λ z. Some z) d)
 
   pub called_row : (w : Wide) → found.source_out s.store k.source ≡ Some (a_wide w) → row_of v 0 (instr.Compare n) (machine_of v s h) ≡ fitting.compare_row v k w (machine_of v s h)
-  called_row w f = compare_is v s h st n k e ∙ compare_found v s h st (statement_view v.code.given 0) k.compares k.heads.items k.end k.source (a_wide w) f
+  called_row w f = compare_is v s h st n k e ∙ compare_found v s h st (statement_view v.code.given 0) k.compares k.heads k.end k.source (a_wide w) f
 
   -- it is a procedure or a copied actual
-  one_of : (c : Cell) → IsClear (table.compare v.setting (code_view v.code) (statement_view v.code.given 0) k.compares k.heads.items k.end (content_of v.code.given c) (machine_of v s h)) → ((p : Procedure) → c ≡ a_wide (wide.Procedure p) → ⊥) → ((t : Closed) → c ≡ a_wide (wide.Thunk t) → ⊥) → ⊥
+  one_of : (c : Cell) → IsClear (table.compare v.setting (code_view v.code) (statement_view v.code.given 0) k.compares k.heads k.end (content_of v.code.given c) (machine_of v s h)) → ((p : Procedure) → c ≡ a_wide (wide.Procedure p) → ⊥) → ((t : Closed) → c ≡ a_wide (wide.Thunk t) → ⊥) → ⊥
   one_of (a_word word.Nothing) clear np nt = absurd clear
   one_of (a_word (word.Integer x)) clear np nt = absurd clear
   one_of (a_word (word.Logical x)) clear np nt = absurd clear
@@ -227,7 +227,7 @@ module _ (v : Seen) (s : State) (h : Held) (st : Stands v s) (n : ℕ) (k : Comp
   one_of (a_wide (wide.Procedure p)) clear np nt = np p refl
 
   pub called_one : IsClear (row_of v 0 (instr.Compare n) (machine_of v s h)) → (o : Option Wide) → o ≡ found.wide_out s.store k.source → ((p : Procedure) → o ≡ Some (wide.Procedure p) → ⊥) → ((t : Closed) → o ≡ Some (wide.Thunk t) → ⊥) → ⊥
-  called_one clear o a np nt = one_of it.0 (subst IsClear (compare_is v s h st n k e ∙ compare_found v s h st (statement_view v.code.given 0) k.compares k.heads.items k.end k.source it.0 it.1) clear) (λ p q. np p (wide_of (wide.Procedure p) q)) (λ t q. nt t (wide_of (wide.Thunk t) q)) where
+  called_one clear o a np nt = one_of it.0 (subst IsClear (compare_is v s h st n k e ∙ compare_found v s h st (statement_view v.code.given 0) k.compares k.heads k.end k.source it.0 it.1) clear) (λ p q. np p (wide_of (wide.Procedure p) q)) (λ t q. nt t (wide_of (wide.Thunk t) q)) where
     it : (c : Cell) × (found.source_out s.store k.source ≡ Some c)
     it = called_there clear
 

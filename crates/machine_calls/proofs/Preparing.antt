@@ -8,7 +8,7 @@ use Rattle.cell_store.specs.declared.cells.Procedure.{Procedure}
 use Rattle.cell_store.specs.declared.cells.Wide.TheVariants as wide
 use Rattle.cell_store.specs.declared.entries.Frame as store_frame
 use Rattle.cell_store.specs.Cells.{Cell, a_wide}
-use Rattle.stack_code.specs.declared.heads.ComparedCall.{ComparedCall}
+use Rattle.stack_code.specs.Calls.{ComparedCall}
 use Rattle.stack_code.specs.declared.heads.Formal.{Formal}
 use Rattle.stack_code.specs.declared.heads.ProcedureHead.{ProcedureHead}
 use Rattle.stack_code.specs.declared.heads.TextHead.{TextHead}
@@ -79,7 +79,7 @@ module _ (v : Seen) (s : State) (h : Held) (st : Stands v s) where
 
   module _ (n i : ℕ) (k : ComparedCall) (is : call_of v.code.added n ≡ call_view k) where
     abbrev head : ℕ
-    head = slice_index_or k.heads.items i 0
+    head = slice_index_or k.heads i 0
 
     abbrev pub prepare_row : Next (Unit {0})
     prepare_row = row_of v 0 (instr.Prepare n i) m

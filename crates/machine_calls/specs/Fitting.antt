@@ -11,7 +11,7 @@ use Rattle.algolw_typing.specs.Meanings as typing
 use Rattle.algolw_typing.specs.ProgramView.{gives_view}
 use Rattle.cell_store.specs.declared.cells.Wide.{Wide}
 use Rattle.cell_store.specs.Cells.{a_wide}
-use Rattle.stack_code.specs.declared.heads.ComparedCall.{ComparedCall}
+use Rattle.stack_code.specs.Calls.{ComparedCall}
 use Rattle.stack_code.specs.declared.heads.Formal.{Formal}
 use Rattle.stack_code.specs.declared.heads.FormalType.{FormalType}
 use Rattle.stack_code.specs.declared.heads.Reading.{Reading}
@@ -82,4 +82,4 @@ fits_result t p = false
 
 -- a call of what is wide
 abbrev pub compare_row : Seen → ComparedCall → Wide → Machine → Next (Unit {0})
-compare_row v k w m = table.compare v.setting (code_view v.code) (statement_view v.code.given 0) k.compares k.heads.items k.end (content_of v.code.given (a_wide w)) m
+compare_row v k w m = table.compare v.setting (code_view v.code) (statement_view v.code.given 0) k.compares k.heads k.end (content_of v.code.given (a_wide w)) m

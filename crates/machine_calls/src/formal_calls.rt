@@ -116,7 +116,7 @@ pub fn compare(state: &mut State, given: &Given, call: u32, pc: u32, held: Held)
     ensures { Goes seen state.new held result (row_of seen 0 (instr.Compare call) (machine_of seen state.old held)) }
 {
     let call = given.code.call(call);
-    let Some(called) = source_out(&state.store, call.source) else {
+    let Some(called) = source_out(&state.store, call.source()) else {
         unreachable!()
     };
     match called {
@@ -145,7 +145,7 @@ fn compare_procedure(
     requires clear { IsClear (fitting.compare_row seen call.now (wide.Procedure procedure) (machine_of seen state.now held)) }
     ensures { Goes seen state.now held result (fitting.compare_row seen call.now (wide.Procedure procedure) (machine_of seen state.now held)) }
 {
-    if !call.compares {
+    if !call.compares() {
         return go_to(pc + 1, held);
     }
     if they_fit(&state.store, code, procedure, call) {
@@ -170,10 +170,10 @@ fn compare_thunk(
     requires lands { Lands seen (fitting.compare_row seen call.now (wide.Thunk thunk) (machine_of seen state.old held)) }
     ensures { Goes seen state.new held result (fitting.compare_row seen call.now (wide.Thunk thunk) (machine_of seen state.old held)) }
 {
-    if !call.heads.is_empty() {
+    if !call.heads().is_empty() {
         return Next::Halted(Halt::Fault(Fault::ActualsDoNotFit));
     }
-    use_thunk(state, steps, call.end, Purpose::Value, thunk, held)
+    use_thunk(state, steps, call.end(), Purpose::Value, thunk, held)
 }
 
 /// Whether the actuals of a call fit the formals of a procedure.
@@ -181,12 +181,12 @@ fn they_fit(store: &Store, code: &Code, procedure: Procedure, call: &ComparedCal
     requires code { CodeRuns code.now }
     requires cells { CellsFit code.now.given store.now.cells }
     requires head { IsSome (found.procedure_at code.now procedure.head) }
-    requires parts { IsSome (fitting.parts code.now store.now (found.formals_of (found.procedure_at code.now procedure.head)) call.now.heads.items) }
-    ensures { IfSome (fitting.parts code.now store.now (found.formals_of (found.procedure_at code.now procedure.head)) call.now.heads.items)
-        (λ parts. (w : Place) → fitting.they_fit code.now.given w (found.formals_of (found.procedure_at code.now procedure.head)) (length call.now.heads.items) parts ≡ result) }
+    requires parts { IsSome (fitting.parts code.now store.now (found.formals_of (found.procedure_at code.now procedure.head)) call.now.heads) }
+    ensures { IfSome (fitting.parts code.now store.now (found.formals_of (found.procedure_at code.now procedure.head)) call.now.heads)
+        (λ parts. (w : Place) → fitting.they_fit code.now.given w (found.formals_of (found.procedure_at code.now procedure.head)) (length call.now.heads) parts ≡ result) }
 {
     let head = procedure_at(code, procedure.head);
-    actuals_fit(store, code, &head.formals, &call.heads)
+    actuals_fit(store, code, &head.formals, call.heads())
 }
 
 /// The type of a formal of the procedure whose head is an instruction.
@@ -200,10 +200,10 @@ fn formal_at(code: &Code, head: u32, formal: u32) -> FormalType
 
 /// The head of an actual of a call.
 fn actual_head(call: &ComparedCall, number: u32) -> u32
-    requires { number < length call.now.heads.items }
-    ensures { result ≡ slice_index_or call.now.heads.items number 0 }
+    requires { number < length call.now.heads }
+    ensures { result ≡ slice_index_or call.now.heads number 0 }
 {
-    call.heads[number as usize]
+    call.heads()[number as usize]
 }
 
 /// An actual of a call is prepared for its formal.
@@ -227,7 +227,7 @@ pub fn prepare(
 {
     let call = given.code.call(call);
     let head = actual_head(call, formal);
-    let procedure = procedure_out(&state.store, call.source);
+    let procedure = procedure_out(&state.store, call.source());
     let is = formal_at(given.code, procedure.head, formal);
     match text_at(given.code, head).reading {
         Reading::Phrase { is_variable, gives } => {
@@ -348,7 +348,7 @@ pub fn call_through(
     requires lands { Lands seen (row_of seen 0 (instr.CallThrough site call) (machine_of seen state.old held)) }
     ensures { Goes seen state.new held result (row_of seen 0 (instr.CallThrough site call) (machine_of seen state.old held)) }
 {
-    let procedure = procedure_out(&state.store, given.code.call(call).source);
+    let procedure = procedure_out(&state.store, given.code.call(call).source());
     call_procedure(state, given, site, None, procedure, pc, held)
 }
 

@@ -1,11 +1,9 @@
 -- Numbers stay ones that the tables hold where instructions are put for targets.
-use Rattle.std.proofs.Common.{◌≡◌, ℕ, ◌<◌, List, [], ◌∷◌, map, length, zero, suc, refl, sym, ◌∙◌, ap, subst, slice_index_or}
+use Rattle.std.proofs.Common.{◌≡◌, ℕ, ◌<◌, List, [], ◌∷◌, map, length, zero, suc, refl, sym, subst, slice_index_or}
 use Rattle.std.specs.List.{All}
-use Rattle.std.specs.Vec.{with_items}
-use Rattle.std.specs.declared.vec.Vec.{Vec}
-use Rattle.std.proofs.lemmas.List.{length-map, with_items_is}
+use Rattle.std.proofs.lemmas.List.{length-map}
 use Rattle.std.proofs.lemmas.List.Elements.{All-map, All-weaker}
-use Rattle.stack_code.specs.declared.heads.ComparedCall.{ComparedCall}
+use Rattle.stack_code.specs.Calls.{ComparedCall}
 use Rattle.stack_code.specs.declared.heads.Reading.{Reading}
 use Rattle.stack_code.specs.declared.heads.Reading.TheVariants as reading
 use Rattle.stack_code.specs.declared.instructions.Coded.{Coded}
@@ -102,7 +100,3 @@ fits_linked c t h = record {
   procedures = h.procedures;
   texts = all_of (TextFits c.given) (TextFits c.given) (linked_text t) (λ x f. reading_fits c.given t x.reading f) c.added.texts h.texts;
 }
-
--- what a vector holds where each of its elements was written
-pub written : {X Z : Type 0} (f : X → X) (v : Vec X Z) (old new : List X) → old ≡ v.items → new ≡ map f old → (with_items v new).items ≡ map f v.items
-written f v old new same is = with_items_is v new (ap length is ∙ length-map old f ∙ ap length same ∙ sym v.ok.0) ∙ is ∙ ap (map f) same

@@ -8,6 +8,8 @@ pub mod Ending
 pub mod GoingOn
 pub mod Displays
 pub mod Laws
+pub mod Calls
+pub mod CallForms
 pub mod CodeView
 pub mod Making
 pub mod Made

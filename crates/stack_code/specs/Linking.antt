@@ -1,6 +1,6 @@
 -- Code in which procedures and labelled items go by the numbers of targets, and the code in which they go by instructions.
 use Rattle.std.specs.Prelude.{ℕ, List, map, slice_index_or}
-use Rattle.stack_code.specs.declared.heads.ComparedCall.{ComparedCall}
+use Rattle.stack_code.specs.Calls.{ComparedCall}
 use Rattle.stack_code.specs.declared.heads.Reading.{Reading}
 use Rattle.stack_code.specs.declared.heads.Reading.TheVariants as reading
 use Rattle.stack_code.specs.declared.heads.TextHead.{TextHead}

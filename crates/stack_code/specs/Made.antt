@@ -6,7 +6,7 @@ use Rattle.value_ops.specs.declared.values.SetId.{SetId}
 use Rattle.record_classes.specs.Classes as classes
 use Rattle.algolw_typing.specs.Types.{is_place, has}
 use Rattle.algolw_typing.specs.ProgramView.{set_view}
-use Rattle.stack_code.specs.declared.heads.ComparedCall.{ComparedCall}
+use Rattle.stack_code.specs.Calls.{ComparedCall}
 use Rattle.stack_code.specs.declared.heads.ProcedureHead.{ProcedureHead}
 use Rattle.stack_code.specs.declared.heads.Stars.{Stars}
 use Rattle.stack_code.specs.declared.heads.TextHead.{TextHead}

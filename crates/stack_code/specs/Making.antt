@@ -3,7 +3,7 @@ use Rattle.std.specs.Prelude.{ℕ, List, [], ◌∷◌, ◌++◌, slice_set, sli
 use Rattle.std.specs.declared.vec.Vec.{Vec}
 use Rattle.std.specs.declared.alloc.Global.{Global}
 use Rattle.stack_code.specs.declared.code.ProgramTables.{ProgramTables}
-use Rattle.stack_code.specs.declared.heads.ComparedCall.{ComparedCall}
+use Rattle.stack_code.specs.Calls.{ComparedCall}
 use Rattle.stack_code.specs.declared.heads.ProcedureHead.{ProcedureHead}
 use Rattle.stack_code.specs.declared.heads.Stars.{Stars}
 use Rattle.stack_code.specs.declared.heads.TextHead.{TextHead}
@@ -16,8 +16,8 @@ use Rattle.stack_code.specs.CodeView.{Given, Added, CodeView}
 abbrev pub given_by : ProgramTables → Given
 given_by t = record { statements = t.statements.items; names = t.names.items; classes = t.classes; class_places = t.class_places.items }
 
-abbrev pub added_by : Vec (List ℕ) Global → Vec ProcedureHead Global → Vec TextHead Global → Vec ComparedCall Global → Vec Stars Global → Added
-added_by strings procedures texts calls stars = record { strings = strings.items; procedures = procedures.items; texts = texts.items; calls = calls.items; stars = stars.items }
+abbrev pub added_by : Vec (List ℕ) Global → Vec ProcedureHead Global → List TextHead → List ComparedCall → Vec Stars Global → Added
+added_by strings procedures texts calls stars = record { strings = strings.items; procedures = procedures.items; texts = texts; calls = calls; stars = stars.items }
 
 abbrev pub nothing_added : Added
 nothing_added = record { strings = []; procedures = []; texts = []; calls = []; stars = [] }

@@ -4,9 +4,11 @@ ghost use Rattle.stack_code.specs.CodeView.{GivenFits, InstrFits, ProcedureFits,
 ghost use Rattle.stack_code.specs.Limits.{CodeRuns, InstrRuns, ProcedureRuns, TextRuns, is_instr};
 ghost use Rattle.stack_code.specs.Making.{given_by, no_instructions, with_instruction, with_replaced, with_marks, with_string, with_procedure, with_text, with_call, with_stars};
 
-use crate::heads::{CodedName, ComparedCall, ProcedureHead, Stars, TextHead};
+use crate::calls::ComparedCall;
+use crate::heads::{CodedName, ProcedureHead, Stars, TextHead};
 use crate::instructions::{Coded, Instr};
 use crate::limits::MOST_DIMENSIONS;
+use chunked_vec::ChunkedVec;
 use record_classes::ClassTable;
 use std::alloc::{AllocError, Global};
 use std::marker::Model;
@@ -31,13 +33,13 @@ pub struct ProgramTables {
 /// no program without faults has it.
 #[derive(Drop)]
 pub struct Code {
-    pub(crate) instructions: Vec<Coded>,
+    pub(crate) instructions: ChunkedVec<Coded>,
     marks: u32,
     tables: ProgramTables,
     strings: Vec<Text>,
     procedures: Vec<ProcedureHead>,
-    pub(crate) texts: Vec<TextHead>,
-    pub(crate) calls: Vec<ComparedCall>,
+    pub(crate) texts: ChunkedVec<TextHead>,
+    pub(crate) calls: ChunkedVec<ComparedCall>,
     stars: Vec<Stars>,
 }
 
@@ -50,9 +52,9 @@ impl Model for Code {
     ghost use Rattle.stack_code.specs.Limits.{IsWithin};
     ghost use Rattle.stack_code.specs.Making.{given_by, added_by};
 
-    ghost view = { λ c. record { instructions = c.instructions.items; marks = c.marks; given = given_by c.tables; added = added_by c.strings c.procedures c.texts c.calls c.stars } };
+    ghost view = { λ c. record { instructions = c.instructions; marks = c.marks; given = given_by c.tables; added = added_by c.strings c.procedures c.texts c.calls c.stars } };
 
-    ghost invariant = { λ c. CodeFits (record { instructions = c.instructions.items; marks = c.marks; given = given_by c.tables; added = added_by c.strings c.procedures c.texts c.calls c.stars }) × IsWithin (record { instructions = c.instructions.items; marks = c.marks; given = given_by c.tables; added = added_by c.strings c.procedures c.texts c.calls c.stars }) };
+    ghost invariant = { λ c. CodeFits (record { instructions = c.instructions; marks = c.marks; given = given_by c.tables; added = added_by c.strings c.procedures c.texts c.calls c.stars }) × IsWithin (record { instructions = c.instructions; marks = c.marks; given = given_by c.tables; added = added_by c.strings c.procedures c.texts c.calls c.stars }) };
 }
 
 /// The next number of a list so long. Where it has none the answer is want of memory.
@@ -80,13 +82,13 @@ impl Code {
         ensures { result ≡ no_instructions tables }
     {
         Code {
-            instructions: Vec::new(alloc),
+            instructions: ChunkedVec::new(alloc),
             marks: 0,
             tables,
             strings: Vec::new(alloc),
             procedures: Vec::new(alloc),
-            texts: Vec::new(alloc),
-            calls: Vec::new(alloc),
+            texts: ChunkedVec::new(alloc),
+            calls: ChunkedVec::new(alloc),
             stars: Vec::new(alloc),
         }
     }

@@ -85,19 +85,6 @@ pub struct TextHead {
     pub reading: Reading,
 }
 
-/// A call of what stands for a name, whose actuals are compared with the formals of what is called.
-#[derive(Drop)]
-pub struct ComparedCall {
-    /// What stands for the name.
-    pub source: Source,
-    /// Whether they are compared.
-    pub compares: bool,
-    /// The heads of the actuals' texts.
-    pub heads: Vec<u32>,
-    /// The instruction that ends the call.
-    pub end: u32,
-}
-
 /// The subscripts of a subarray, each a star or not.
 #[derive(Drop)]
 pub struct Stars {

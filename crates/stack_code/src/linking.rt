@@ -1,9 +1,11 @@
 ghost use Rattle.std.specs.Prelude.{◌≡◌, map};
 ghost use Rattle.stack_code.specs.Linking as linking;
 
+use crate::calls::ComparedCall;
 use crate::code::Code;
-use crate::heads::{ComparedCall, Reading, TextHead};
+use crate::heads::{Reading, TextHead};
 use crate::instructions::{Coded, Instr, Source};
+use chunked_vec::ChunkedVec;
 
 /// The instruction at a target.
 fn instruction_at(targets: &[u32], target: u32) -> u32
@@ -72,33 +74,33 @@ impl Instr {
     }
 }
 
-#[tactic(auto, using(std::proofs::lemmas::List::Edits::map_over_more))]
 /// Puts an instruction for each target of instructions.
-fn link_instructions(instructions: &mut [Coded], targets: &[u32])
+fn link_instructions(instructions: &mut ChunkedVec<Coded>, targets: &[u32])
     ensures { instructions.new ≡ map (linking.linked_coded targets.now) instructions.old }
 {
-    for coded in instructions.iter_mut() {
+    for number in 0..instructions.len() {
+        let coded = &mut instructions[number];
         coded.does = coded.does.linked(targets);
     }
 }
 
-#[tactic(auto, using(std::proofs::lemmas::List::Edits::map_over_more))]
 /// Puts an instruction for each target of the heads of texts.
-fn link_texts(texts: &mut [TextHead], targets: &[u32])
+fn link_texts(texts: &mut ChunkedVec<TextHead>, targets: &[u32])
     ensures { texts.new ≡ map (linking.linked_text targets.now) texts.old }
 {
-    for text in texts.iter_mut() {
+    for number in 0..texts.len() {
+        let text = &mut texts[number];
         text.reading = text.reading.linked(targets);
     }
 }
 
-#[tactic(auto, using(std::proofs::lemmas::List::Edits::map_over_more))]
 /// Puts an instruction for each target of calls that compare.
-fn link_calls(calls: &mut [ComparedCall], targets: &[u32])
+fn link_calls(calls: &mut ChunkedVec<ComparedCall>, targets: &[u32])
     ensures { calls.new ≡ map (linking.linked_call targets.now) calls.old }
 {
-    for call in calls.iter_mut() {
-        call.source = call.source.linked(targets);
+    for number in 0..calls.len() {
+        let call = &mut calls[number];
+        call.set_source(call.source().linked(targets));
     }
 }
 

@@ -10,7 +10,7 @@ use Rattle.stack_code.specs.Code.{Coded}
 use Rattle.stack_code.specs.Instr as instr
 use Rattle.stack_code.specs.CodeView.{Added, CallView, CodeFits, InstrFits, call_of, call_view, no_call}
 use Rattle.stack_code.specs.Linking.{linked_added, linked_call}
-use Rattle.stack_code.specs.declared.heads.ComparedCall.{ComparedCall}
+use Rattle.stack_code.specs.Calls.{ComparedCall}
 use Rattle.stack_code.specs.declared.instructions.Instr.TheVariants as held
 use Rattle.symbol_table.specs.declared.here.Here.{Here}
 use Rattle.code_emitter.specs.declared.emitter.Emitter.{Emitter}

@@ -17,6 +17,8 @@ mod displays;
 #[cfg(test)]
 mod jobs;
 #[cfg(test)]
+mod lists;
+#[cfg(test)]
 mod office_day;
 #[cfg(test)]
 mod options;

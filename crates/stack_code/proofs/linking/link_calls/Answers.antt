@@ -1,7 +1,10 @@
-use Rattle.std.proofs.Common.{ap, slice_index_or}
+use Rattle.std.proofs.Common.{◌<◌, subst}
 use Rattle.std.proofs.lemmas.List.Edits.{map_over_more}
 use Rattle.stack_code.specs.Linking.{linked_call}
 use Rattle.stack_code.proofs.linking.link_calls.Goals as goal
 
-pub loop-call-preserved : goal.loop-call-preserved
-loop-call-preserved c = rw c.linked-call.ensures (map_over_more (linked_call c.args.targets.now) c.args.calls.now c.loop-call.calls c.loop-call.call-index (slice_index_or c.loop-call.calls c.loop-call.call-index c.call-item.result) c.loop-call-test.true c.loop-call.invariant (ap (slice_index_or c.loop-call.calls c.loop-call.call-index) c.call-item.is))
+pub loop-number-preserved : goal.loop-number-preserved
+loop-number-preserved c =
+    let n = c.loop-number.number in
+    let there = subst (λ k. n < k) c.len-number-end.ensures c.loop-number-test.true in
+    rw (c.set_source.ensures, c.linked.ensures, c.source.ensures) (map_over_more (linked_call c.args.targets.now) c.args.calls.now c.loop-number.calls n c.index_mut-call.result.now there c.loop-number.invariant c.index_mut-call.ensures.value)

@@ -7,6 +7,6 @@ use Rattle.stack_code.proofs.code.Code.coded.Goals as goal
 
 pub returns-clause-runs : goal.returns-clause-runs
 returns-clause-runs c =
-    let held : CodeView = record { instructions = c.self.inside.instructions.items; marks = c.self.inside.marks; given = given_by c.self.inside.tables; added = added_by c.self.inside.strings c.self.inside.procedures c.self.inside.texts c.self.inside.calls c.self.inside.stars } in
+    let held : CodeView = record { instructions = c.self.inside.instructions; marks = c.self.inside.marks; given = given_by c.self.inside.tables; added = added_by c.self.inside.strings c.self.inside.procedures c.self.inside.texts c.self.inside.calls c.self.inside.stars } in
     subst (λ (v : CodeView). InstrRuns v.given v.added c.index.result.now.does) c.self.view_is
     (coded_runs held c.args.number c.index.result.now c.self.invariant (subst (λ (v : CodeView). c.args.number < length v.instructions) (sym c.self.view_is) c.requires) c.index.ensures)
