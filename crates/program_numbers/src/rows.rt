@@ -33,7 +33,7 @@ impl Numbering {
             (λ ns. nodes_onto (map (program.node_view ns) made.items) typed.no_nodes)
             found.new (nodes_taken (phrases_of (map tree phrases.now)) found.old)) }
     {
-        let mut made = Vec::new(self.alloc);
+        let mut made = Vec::with_capacity(self.alloc, phrases.len())?;
         for phrase in phrases {
             let next = self.node(table, phrase, found)?;
             made.push(next)?;
@@ -54,7 +54,7 @@ impl Numbering {
             (λ ns. nodes_onto (map (program.part_view ns) made.items) typed.no_nodes)
             found.new (nodes_taken (phrases_of (map part_tree parts.now)) found.old)) }
     {
-        let mut made = Vec::new(self.alloc);
+        let mut made = Vec::with_capacity(self.alloc, parts.len())?;
         for part in parts {
             let next = self.part(table, part, found)?;
             made.push(next)?;
@@ -94,7 +94,7 @@ impl Numbering {
             (λ ns. links_onto (map (link_in ns) made.items) typed.no_links)
             found.new (links_taken (links_of (map link_tree links.now)) found.old)) }
     {
-        let mut made = Vec::new(self.alloc);
+        let mut made = Vec::with_capacity(self.alloc, links.len())?;
         for link in links {
             let right = self.node(table, &link.right, found)?;
             made.push(TypedLink {
@@ -119,7 +119,7 @@ impl Numbering {
             (λ ns. lists_onto (map (list_in ns) made.items) typed.no_lists)
             found.new (lists_taken (lists_of (map list_tree lists.now)) found.old)) }
     {
-        let mut made = Vec::new(self.alloc);
+        let mut made = Vec::with_capacity(self.alloc, lists.len())?;
         for list in lists {
             let kind = self.list(table, list, found)?;
             made.push(TypedList {
@@ -166,7 +166,7 @@ impl Numbering {
             (λ ns. actuals_onto (map (program.actual_view ns) made.items) typed.no_actuals)
             found.new (actuals_taken (actuals_of (map actual_tree actuals.now)) found.old)) }
     {
-        let mut made = Vec::new(self.alloc);
+        let mut made = Vec::with_capacity(self.alloc, actuals.len())?;
         for actual in actuals {
             let next = self.actual(table, actual, found)?;
             made.push(next)?;

@@ -21,6 +21,11 @@ use Rattle.algolw_tree.specs.declared.phrases.Listed.{out-Listed}
 use Rattle.algolw_tree.specs.declared.phrases.Part.{Part}
 use Rattle.algolw_tree.specs.declared.phrases.Phrase.{Phrase}
 use Rattle.algolw_tree.specs.declared.phrases.ProcDecl.{out-ProcDecl}
+use Rattle.algolw_tree.specs.declared.programs.TypedActual.{TypedActual}
+use Rattle.algolw_tree.specs.declared.programs.TypedLink.{TypedLink}
+use Rattle.algolw_tree.specs.declared.programs.TypedList.{TypedList}
+use Rattle.algolw_tree.specs.declared.programs.TypedPart.{TypedPart}
+use Rattle.algolw_tree.specs.declared.programs.Node.{Node}
 use Rattle.algolw_tree.specs.declared.programs.TypedBound.{TypedBound}
 use Rattle.algolw_typing.specs.Known.{KnowsDeclared, KnowsFormals, KnowsResult}
 use Rattle.algolw_typing.specs.ProgramView as program
@@ -52,6 +57,13 @@ nodes-node-requires t c =
 pub nodes-loop-phrase-preserved : goal.nodes-loop-phrase-preserved
 nodes-loop-phrase-preserved t c = turn c.args.self.now program.node_view typed.no_nodes typed.node_and nodes_onto (λ ss. nodes_taken (phrases_of (map tree ss))) (λ s. node_taken (tree s)) (node_row tree) c.args.table.now c.loop-phrase.table _ c.args.phrases.now c.loop-phrase.phrase-index c.phrase-item.result (nodes_taken (phrases_of (map tree c.args.phrases.now)) c.args.found.now) c.loop-phrase.found _ c.loop-phrase.made.items c.push.new.self.items _ c.loop-phrase-test.true c.phrase-item.is c.loop-phrase.invariant c.in_ok-next.ensures c.in_ok-push.ensures.items
 
+pub nodes-loop-phrase-init : goal.nodes-loop-phrase-init
+nodes-loop-phrase-init t c =
+    let n = c.args.self.now in
+    let whole = nodes_taken (phrases_of (map tree c.args.phrases.now)) c.args.found.now in
+    subst (λ (ys : List Node). SoFar {X = typed.Node} {W = typed.Nodes} n c.args.table.now c.args.table.now (λ ns. map (program.node_view ns) ys) nodes_onto whole whole) (sym c.in_ok-made.ensures.items)
+    (start n program.node_view typed.no_nodes typed.node_and nodes_onto (λ ss. nodes_taken (phrases_of (map tree ss))) (λ s. node_taken (tree s)) (node_row tree) c.args.table.now c.args.phrases.now c.args.found.now)
+
 pub nodes-returns : goal.nodes-returns
 nodes-returns t c = finish c.args.self.now program.node_view typed.no_nodes typed.node_and nodes_onto (λ ss. nodes_taken (phrases_of (map tree ss))) (λ s. node_taken (tree s)) (node_row tree) c.args.table.now c.loop-phrase.table c.args.phrases.now c.loop-phrase.phrase-index (nodes_taken (phrases_of (map tree c.args.phrases.now)) c.args.found.now) c.loop-phrase.found c.loop-phrase.made.items c.loop-phrase-test.false c.loop-phrase.invariant
 
@@ -63,6 +75,13 @@ parts-part-requires t c =
 
 pub parts-loop-part-preserved : goal.parts-loop-part-preserved
 parts-loop-part-preserved t c = turn c.args.self.now program.part_view typed.no_nodes typed.node_and nodes_onto (λ ss. nodes_taken (phrases_of (map part_tree ss))) (λ s. node_taken (part_tree s)) (node_row part_tree) c.args.table.now c.loop-part.table _ c.args.parts.now c.loop-part.part-index c.part-item.result (nodes_taken (phrases_of (map part_tree c.args.parts.now)) c.args.found.now) c.loop-part.found _ c.loop-part.made.items c.push.new.self.items _ c.loop-part-test.true c.part-item.is c.loop-part.invariant c.in_ok-next.ensures c.in_ok-push.ensures.items
+
+pub parts-loop-part-init : goal.parts-loop-part-init
+parts-loop-part-init t c =
+    let n = c.args.self.now in
+    let whole = nodes_taken (phrases_of (map part_tree c.args.parts.now)) c.args.found.now in
+    subst (λ (ys : List TypedPart). SoFar {X = typed.Node} {W = typed.Nodes} n c.args.table.now c.args.table.now (λ ns. map (program.part_view ns) ys) nodes_onto whole whole) (sym c.in_ok-made.ensures.items)
+    (start n program.part_view typed.no_nodes typed.node_and nodes_onto (λ ss. nodes_taken (phrases_of (map part_tree ss))) (λ s. node_taken (part_tree s)) (node_row part_tree) c.args.table.now c.args.parts.now c.args.found.now)
 
 pub parts-returns : goal.parts-returns
 parts-returns t c = finish c.args.self.now program.part_view typed.no_nodes typed.node_and nodes_onto (λ ss. nodes_taken (phrases_of (map part_tree ss))) (λ s. node_taken (part_tree s)) (node_row part_tree) c.args.table.now c.loop-part.table c.args.parts.now c.loop-part.part-index (nodes_taken (phrases_of (map part_tree c.args.parts.now)) c.args.found.now) c.loop-part.found c.loop-part.made.items c.loop-part-test.false c.loop-part.invariant
@@ -76,6 +95,13 @@ links-node-requires t c =
 pub links-loop-link-preserved : goal.links-loop-link-preserved
 links-loop-link-preserved t c = turn c.args.self.now link_in typed.no_links typed.link_and links_onto (λ ss. links_taken (links_of (map link_tree ss))) (λ s. link_taken (link_tree s)) (link_row link_tree) c.args.table.now c.loop-link.table _ c.args.links.now c.loop-link.link-index c.link-item.result (links_taken (links_of (map link_tree c.args.links.now)) c.args.found.now) c.loop-link.found _ c.loop-link.made.items c.push.new.self.items _ c.loop-link-test.true c.link-item.is c.loop-link.invariant (taken_one c.args.self.now c.loop-link.table _ (λ ns. program.node_view ns c.in_ok-right.right) (λ ns. link_in ns _) (node_taken (tree c.link-item.result.right)) (typed.Linked c.link-item.result.op c.link-item.result.place) c.loop-link.found _ (λ sets. refl) c.in_ok-right.ensures) c.in_ok-push.ensures.items
 
+pub links-loop-link-init : goal.links-loop-link-init
+links-loop-link-init t c =
+    let n = c.args.self.now in
+    let whole = links_taken (links_of (map link_tree c.args.links.now)) c.args.found.now in
+    subst (λ (ys : List TypedLink). SoFar {X = typed.Link} {W = typed.Links} n c.args.table.now c.args.table.now (λ ns. map (link_in ns) ys) links_onto whole whole) (sym c.in_ok-made.ensures.items)
+    (start n link_in typed.no_links typed.link_and links_onto (λ ss. links_taken (links_of (map link_tree ss))) (λ s. link_taken (link_tree s)) (link_row link_tree) c.args.table.now c.args.links.now c.args.found.now)
+
 pub links-returns : goal.links-returns
 links-returns t c = finish c.args.self.now link_in typed.no_links typed.link_and links_onto (λ ss. links_taken (links_of (map link_tree ss))) (λ s. link_taken (link_tree s)) (link_row link_tree) c.args.table.now c.loop-link.table c.args.links.now c.loop-link.link-index (links_taken (links_of (map link_tree c.args.links.now)) c.args.found.now) c.loop-link.found c.loop-link.made.items c.loop-link-test.false c.loop-link.invariant
 
@@ -88,6 +114,13 @@ lists-list-requires t c =
 pub lists-loop-list-preserved : goal.lists-loop-list-preserved
 lists-loop-list-preserved t c = turn c.args.self.now list_in typed.no_lists typed.list_and lists_onto (λ ss. lists_taken (lists_of (map list_tree ss))) (λ s. listing_taken (list_tree s)) (list_row list_tree) c.args.table.now c.loop-list.table _ c.args.lists.now c.loop-list.list-index c.list-item.result (lists_taken (lists_of (map list_tree c.args.lists.now)) c.args.found.now) c.loop-list.found _ c.loop-list.made.items c.push.new.self.items _ c.loop-list-test.true c.list-item.is c.loop-list.invariant c.in_ok-kind.ensures c.in_ok-push.ensures.items
 
+pub lists-loop-list-init : goal.lists-loop-list-init
+lists-loop-list-init t c =
+    let n = c.args.self.now in
+    let whole = lists_taken (lists_of (map list_tree c.args.lists.now)) c.args.found.now in
+    subst (λ (ys : List TypedList). SoFar {X = typed.Listing} {W = typed.Lists} n c.args.table.now c.args.table.now (λ ns. map (list_in ns) ys) lists_onto whole whole) (sym c.in_ok-made.ensures.items)
+    (start n list_in typed.no_lists typed.list_and lists_onto (λ ss. lists_taken (lists_of (map list_tree ss))) (λ s. listing_taken (list_tree s)) (list_row list_tree) c.args.table.now c.args.lists.now c.args.found.now)
+
 pub lists-returns : goal.lists-returns
 lists-returns t c = finish c.args.self.now list_in typed.no_lists typed.list_and lists_onto (λ ss. lists_taken (lists_of (map list_tree ss))) (λ s. listing_taken (list_tree s)) (list_row list_tree) c.args.table.now c.loop-list.table c.args.lists.now c.loop-list.list-index (lists_taken (lists_of (map list_tree c.args.lists.now)) c.args.found.now) c.loop-list.found c.loop-list.made.items c.loop-list-test.false c.loop-list.invariant
 
@@ -99,6 +132,13 @@ actuals-actual-requires t c =
 
 pub actuals-loop-actual-preserved : goal.actuals-loop-actual-preserved
 actuals-loop-actual-preserved t c = turn c.args.self.now program.actual_view typed.no_actuals typed.actual_and actuals_onto (λ ss. actuals_taken (actuals_of (map actual_tree ss))) (λ s. actual_taken (actual_tree s)) (actual_row actual_tree) c.args.table.now c.loop-actual.table _ c.args.actuals.now c.loop-actual.actual-index c.actual-item.result (actuals_taken (actuals_of (map actual_tree c.args.actuals.now)) c.args.found.now) c.loop-actual.found _ c.loop-actual.made.items c.push.new.self.items _ c.loop-actual-test.true c.actual-item.is c.loop-actual.invariant c.in_ok-next.ensures c.in_ok-push.ensures.items
+
+pub actuals-loop-actual-init : goal.actuals-loop-actual-init
+actuals-loop-actual-init t c =
+    let n = c.args.self.now in
+    let whole = actuals_taken (actuals_of (map actual_tree c.args.actuals.now)) c.args.found.now in
+    subst (λ (ys : List TypedActual). SoFar {X = typed.Actual} {W = typed.Actuals} n c.args.table.now c.args.table.now (λ ns. map (program.actual_view ns) ys) actuals_onto whole whole) (sym c.in_ok-made.ensures.items)
+    (start n program.actual_view typed.no_actuals typed.actual_and actuals_onto (λ ss. actuals_taken (actuals_of (map actual_tree ss))) (λ s. actual_taken (actual_tree s)) (actual_row actual_tree) c.args.table.now c.args.actuals.now c.args.found.now)
 
 pub actuals-returns : goal.actuals-returns
 actuals-returns t c = finish c.args.self.now program.actual_view typed.no_actuals typed.actual_and actuals_onto (λ ss. actuals_taken (actuals_of (map actual_tree ss))) (λ s. actual_taken (actual_tree s)) (actual_row actual_tree) c.args.table.now c.loop-actual.table c.args.actuals.now c.loop-actual.actual-index (actuals_taken (actuals_of (map actual_tree c.args.actuals.now)) c.args.found.now) c.loop-actual.found c.loop-actual.made.items c.loop-actual-test.false c.loop-actual.invariant
