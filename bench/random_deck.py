@@ -94,6 +94,9 @@ class Deck:
 
     def __init__(self, chance):
         self.chance, self.number, self.shapes = chance, 0, [()]
+        self.standard = Scope()
+        if self.percent(25):
+            self.standard.declare("variables", [Variable("I_W", INTEGER), Variable("S_W", INTEGER)])
         self.text = self.program()
 
     def percent(self, number):
@@ -483,7 +486,21 @@ class Deck:
         if found:
             return found
         kinds = self.some(1, 3, lambda: self.one(INTEGER, INTEGER, LOGICAL, BITS, 4, 100, 200))
-        return f"{self.one('WRITE', 'WRITEON', 'WRITEON')}({', '.join(self.value(scope, it, depth) for it in kinds)})"
+        parts = [self.value(scope, it, depth) for it in kinds]
+        for _ in range(self.one(0, 0, 0, 1, 2)):
+            place = self.chance.randint(0, len(parts))
+            parts[place:place] = self.setting(scope, depth)
+        return f"{self.one('WRITE', 'WRITEON', 'WRITEON')}({', '.join(parts)})"
+
+    def setting(self, scope, depth):
+        """A setting of a width, mostly to one in range, or none where its name means something else."""
+        name, around = self.one("I_W", "S_W"), scope
+        while scope not in (None, self.standard):
+            if name in scope.hidden:
+                return []
+            scope = scope.around
+        width = self.one("1", "3", "6", "20", "132") if self.percent(90) else self.value(around, INTEGER, depth)
+        return [f"{name} := {width}"]
 
     def reading(self, scope):
         wanted = self.one(INTEGER, INTEGER, INTEGER, LOGICAL, BITS, 8, 80)
@@ -513,7 +530,7 @@ class Deck:
 
     def block(self, around, depth):
         """A block with declarations of each kind. A name may mean something else round it."""
-        scope = Scope(around)
+        scope = Scope(around or self.standard)
         decls = self.record_classes(scope) if around is None or self.percent(10) else []
         for _ in range(self.chance.randint(1, 4)):
             variable = Variable(self.name("X", scope), self.kind(scope))

@@ -11,7 +11,7 @@ import re
 
 from deck_tokens import WORDS
 
-STANDARD = "ODD BITSTRING NUMBER CODE DECODE READ READON READCARD WRITE WRITEON IOCONTROL MAXINTEGER".split()
+STANDARD = "ODD BITSTRING NUMBER CODE DECODE READ READON READCARD WRITE WRITEON IOCONTROL MAXINTEGER I_W S_W".split()
 CODE_LIKE = re.compile(r"(BEGIN|END|INTEGER|LOGICAL|STRING|REFERENCE|PROCEDURE|RECORD|IF|FOR|WHILE)\b|[A-Z]\w* ?\(")
 
 
@@ -230,6 +230,23 @@ def list_assigns(deck, number, section):
     return holds(deck.text(number + 1) == "(" and ":=" in deck.range_texts(number, deck.closing(number + 1)))
 
 
+def _sets_width(deck, at):
+    """Whether the `:=` at a token sets the width of what a WRITE places, where it stands in a list of one."""
+    name = deck.text(at - 1)
+    only = deck.text(at - 2) in ("(", ",") and deck.text(at + 2) != ":="
+    return name in ("I_W", "S_W") and name not in deck.declared and only
+
+
+def list_assigns_other(deck, number, section):
+    """Whether the list behind the name at the token has an assignment that sets no width."""
+    if deck.text(number + 1) != "(":
+        return None
+    for at in range(number + 2, deck.closing(number + 1)):
+        if deck.text(at) == ":=" and not _sets_width(deck, at):
+            return f"`:=` at {deck.tokens[at].place}"
+    return None
+
+
 def list_has_string(deck, number, section):
     """Whether the list behind the name at the token has a string."""
     if deck.text(number + 1) != "(":
@@ -428,6 +445,7 @@ CONDITIONS = {
     "a procedure's name is assigned": assigned_procedure,
     "its condition has a `:=`": condition_assigns,
     "its list has a `:=`": list_assigns,
+    "its list has a `:=` that sets no width": list_assigns_other,
     "its list has a string": list_has_string,
     "its list has the name of a FOR": list_has_control_name,
     "two lists stand behind it": two_lists,

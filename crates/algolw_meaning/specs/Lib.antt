@@ -1,6 +1,7 @@
 pub mod Texts
 pub mod DeckDiagnostics
 pub mod TypingDecks
+pub mod SettingDecks
 pub mod ProgramDecks
 pub mod Meaning
 pub mod Running
@@ -11,4 +12,5 @@ pub mod RunRows
 pub mod RunningDecks
 pub mod CallingDecks
 pub mod ManualDecks
+pub mod WidthDecks
 pub mod SectionDecks

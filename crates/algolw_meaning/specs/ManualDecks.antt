@@ -185,6 +185,23 @@ values_decks = (
       ended 6 (codes "A             1               2" ∷ codes "B" ∷ codes "C" ∷ []),
     )
     ∷ (
+      plain (codes "BEGIN INTEGER N; N := 7;"
+          ∷ codes "WRITE(I_W := 3, S_W := 0, N, 12345, I_W);"
+          ∷ codes "I_W := 5; WRITE(N, TRUE, \"A\"); WRITE(N, S_W) END."
+          ∷ []),
+      ended 6 (spaced 2 (codes "712345 14") ∷ spaced 4 (codes "7    TRUE  A") ∷ spaced 4 (codes "7      2") ∷ []),
+    )
+    ∷ (
+      plain (codes "BEGIN INTEGER PROCEDURE F (INTEGER VALUE X);"
+          ∷ codes "BEGIN I_W := X; X END;"
+          ∷ codes "WRITE(1, F(3), 7); WRITE(I_W := 4, F(9), 7);"
+          ∷ codes "WRITE(\"A\", F(0)) END."
+          ∷ []),
+      stopped (codes "FAULT 17 AT 4,1: WIDTH OUT OF RANGE") 10
+          (spaced 13 (codes "1    3    7") ∷ spaced 3 (codes "9     7") ∷ codes "A" ∷ [])
+          (spaced 2 (codes "BLOCK 1,1") ∷ []),
+    )
+    ∷ (
       fed (codes "7 \"AB\" -3 99" ∷ codes "HELLO 12" ∷ []) (codes "BEGIN INTEGER I, J; STRING(4) S;"
           ∷ codes "READ(I, S); READON(J); WRITE(I, S, J);"
           ∷ codes "BEGIN STRING(80) C; READCARD(C); WRITE(C(0|5)) END;"

@@ -5,7 +5,9 @@ ghost use Rattle.algolw_meaning.specs.ManualDecks.{ManualDecksGive};
 ghost use Rattle.algolw_meaning.specs.ProgramDecks.{DecksHaveTheirParts};
 ghost use Rattle.algolw_meaning.specs.RunningDecks.{DecksGive};
 ghost use Rattle.algolw_meaning.specs.SectionDecks.{SectionsGive};
+ghost use Rattle.algolw_meaning.specs.SettingDecks.{SettingsHaveTheirFaults};
 ghost use Rattle.algolw_meaning.specs.TypingDecks.{DecksHaveTheirFaults};
+ghost use Rattle.algolw_meaning.specs.WidthDecks.{WidthDecksGive};
 
 /// A job's result counts its cards, keeps its limits, and costs at least its cards and at most its reserve.
 pub fn result_within()
@@ -33,6 +35,11 @@ pub fn decks_have_their_faults()
     ensures { DecksHaveTheirFaults }
 {}
 
+/// So does each deck of a table of settings and standard variables.
+pub fn settings_have_their_faults()
+    ensures { SettingsHaveTheirFaults }
+{}
+
 /// Each deck of a table is a program with exactly the names, record classes and statements that stand beside it,
 /// whose outermost block has statements that speak of the names and assign the types that stand there.
 pub fn decks_have_their_parts()
@@ -48,6 +55,11 @@ pub fn decks_give()
 /// So does each deck of a table of procedures, their formals, limits and dumps.
 pub fn calling_decks_give()
     ensures { CallingDecksGive }
+{}
+
+/// So does each deck of a table of the widths by which values are written.
+pub fn width_decks_give()
+    ensures { WidthDecksGive }
 {}
 
 /// Each deck of the manual's chapter on what a program does, run, gives exactly what the manual shows.

@@ -19,6 +19,6 @@ pub use programs::{
     TypedPart, TypedProc,
 };
 pub use spelling::{ShortName, Spelling};
-pub use standard::{Basic, STANDARD, Standard, UnaryOp};
+pub use standard::{Basic, STANDARD, Standard, UnaryOp, Width};
 pub use tokens::{Literal, Symbol, Token, TokenKind, Word};
 pub use words::WORDS;

@@ -69,6 +69,15 @@ impl UnaryOp {
     }
 }
 
+/// What of the written values a variable says.
+#[derive(Clone, Copy, Debug, PartialEq, Eq)]
+pub enum Width {
+    /// The columns of an INTEGER: `I_W`.
+    Columns,
+    /// The blanks behind a value that is no string: `S_W`.
+    Blanks,
+}
+
 /// A name that is declared in no deck.
 #[derive(Clone, Copy, Debug, PartialEq, Eq)]
 pub enum Standard {
@@ -84,10 +93,12 @@ pub enum Standard {
     IoControl,
     /// `MAXINTEGER`.
     MaxInteger,
+    /// `I_W` or `S_W`, an INTEGER variable.
+    Variable(Width),
 }
 
 /// The names that are declared in a block round each program, in the order of their places.
-pub const STANDARD: [(&[u8], Standard); 12] = [
+pub const STANDARD: [(&[u8], Standard); 14] = [
     (b"ODD", Standard::Function(UnaryOp::IsOdd)),
     (b"BITSTRING", Standard::Function(UnaryOp::ToBits)),
     (b"NUMBER", Standard::Function(UnaryOp::ToNumber)),
@@ -100,4 +111,6 @@ pub const STANDARD: [(&[u8], Standard); 12] = [
     (b"WRITEON", Standard::Write { first: false }),
     (b"IOCONTROL", Standard::IoControl),
     (b"MAXINTEGER", Standard::MaxInteger),
+    (b"I_W", Standard::Variable(Width::Columns)),
+    (b"S_W", Standard::Variable(Width::Blanks)),
 ];

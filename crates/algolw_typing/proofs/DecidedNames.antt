@@ -9,7 +9,7 @@ use Rattle.algolw_tree.specs.declared.standard.Standard.TheVariants as standard
 use Rattle.algolw_tree.specs.Standards as standards
 use Rattle.algolw_typing.specs.Types.{ValueType, Gives, Statement, Simple, Str, Reference, fits}
 use Rattle.algolw_typing.specs.Verdicts.{Verdict, Good, unless, value, int}
-use Rattle.algolw_typing.specs.Meanings.{Meaning, a_variable, an_array, a_procedure, a_procedure_formal, a_class, a_field, a_label, a_control, a_standard, FormalType, by_name, by_value, by_result, by_value_result, for_array, for_procedure, alone_row, procedure_alone, standard_alone, no_base, procedure_as_base, standard_as_base, base_row, part_of_string, part_row, Part, a_star, a_phrase, as_array, as_procedure, typeless, all_read, no_star, right_number, of_phrase, ints_read, field_values, values_read, variables_read, no_references, card_strings, one_part, field_of, array_row, class_row, field_row, basic_type, is_basic, one_value_row, read_row, read_card_row, write_row, standard_row}
+use Rattle.algolw_typing.specs.Meanings.{Meaning, a_variable, an_array, a_procedure, a_procedure_formal, a_class, a_field, a_label, a_control, a_standard, FormalType, by_name, by_value, by_result, by_value_result, for_array, for_procedure, alone_row, procedure_alone, standard_alone, no_base, procedure_as_base, standard_as_base, base_row, part_of_string, part_row, Part, a_star, a_phrase, a_setting, some_placed, as_array, as_procedure, typeless, all_read, no_star, right_number, of_phrase, ints_read, field_values, values_read, variables_read, no_references, card_strings, one_part, field_of, array_row, class_row, field_row, basic_type, is_basic, one_value_row, read_row, read_card_row, write_row, standard_row}
 use Rattle.algolw_typing.specs.Actuals.{Reading, as_phrases, value_actual, result_actual, value_result_actual, array_actual, statement_actual, function_actual, procedure_actual, table_a, actuals_fit, list_row, subscripts, subarray_row}
 use Rattle.algolw_typing.proofs.Decided.{Decided, good_is, fault_is, IsTyped, has_type, unless_decided, value_decided, decisions}
 
@@ -26,6 +26,7 @@ AreRead (part ∷ parts) = IsRead part × AreRead parts
 abbrev pub IsPlain : Part → Type 0
 IsPlain a_star = ⊤
 IsPlain (a_phrase v g) = ⊤
+IsPlain a_setting = ⊤
 IsPlain part = ⊥
 
 abbrev pub ArePlain : List Part → Type 0
@@ -34,6 +35,7 @@ ArePlain (part ∷ parts) = IsPlain part × ArePlain parts
 
 abbrev pub IsPhrase : Part → Type 0
 IsPhrase (a_phrase v g) = ⊤
+IsPhrase a_setting = ⊤
 IsPhrase part = ⊥
 
 abbrev pub ArePhrases : List Part → Type 0
@@ -59,6 +61,7 @@ no_star_decided : (p : Place) (parts : List Part) (v : Verdict) → ArePlain par
 no_star_decided p [] v h d = d tt
 no_star_decided p (a_star ∷ parts) v h d = fault_is
 no_star_decided p (a_phrase is_variable g ∷ parts) v h d = no_star_decided p parts v h.1 (λ more. d (tt, more))
+no_star_decided p (a_setting ∷ parts) v h d = no_star_decided p parts v h.1 (λ more. d (tt, more))
 no_star_decided p (part ∷ parts) v h d = absurd h.0
 
 star_decided : (p : Place) (parts : List Part) (v : Verdict) → Decided v → Decided (no_star p parts v)
@@ -68,6 +71,7 @@ star_decided p (part ∷ parts) v d = star_decided p parts v d
 
 of_phrase_decided : (part : Part) (row : Gives → Verdict) → IsPhrase part → ((g : Gives) → Decided (row g)) → Decided (of_phrase part row)
 of_phrase_decided (a_phrase v g) row h d = d g
+of_phrase_decided a_setting row h d = d Statement
 of_phrase_decided part row h d = absurd h
 
 int_decided : (p : Place) (g : Gives) (v : Verdict) → Decided v → Decided (int p g v)
@@ -87,6 +91,7 @@ field_values_decided p (t ∷ ts) (part ∷ parts) v h d = of_phrase_decided par
 
 values_read_decided : (p : Place) (parts : List Part) (row : List ValueType → Verdict) → ArePhrases parts → ((ts : List ValueType) → Decided (row ts)) → Decided (values_read p parts row)
 values_read_decided p [] row h d = d []
+values_read_decided p (a_setting ∷ parts) row h d = values_read_decided p parts row h.1 d
 values_read_decided p (part ∷ parts) row h d = of_phrase_decided part (λ g. value p g (λ t. values_read p parts (λ ts. row (t ∷ ts)))) h.0 (λ g. value_decided p g (λ t. values_read p parts (λ ts. row (t ∷ ts))) (λ t. values_read_decided p parts (λ ts. row (t ∷ ts)) h.1 (λ ts. d (t ∷ ts))))
 
 variables_read_decided : (p : Place) (parts : List Part) (row : List ValueType → Verdict) → ((ts : List ValueType) → Decided (row ts)) → Decided (variables_read p parts row)
@@ -117,6 +122,7 @@ procedure_alone_decided p result (f ∷ formals) = fault_is
 
 standard_alone_decided : (p : Place) (s : Standard) → Decided (standard_alone p s)
 standard_alone_decided p standard.MaxInteger = good_is
+standard_alone_decided p (standard.Variable width) = good_is
 standard_alone_decided p s = fault_is
 
 pub alone_decided : (p : Place) (m : Meaning) (d : Place) → Decided (alone_row p m d)
@@ -140,6 +146,7 @@ procedure_as_base_decided p None formals start h = no_base_decided p start h
 
 standard_as_base_decided : (p : Place) (s : Standard) (start : Option Gives) → IsTyped start → Decided (standard_as_base p s start)
 standard_as_base_decided p standard.MaxInteger start h = good_is
+standard_as_base_decided p (standard.Variable width) start h = good_is
 standard_as_base_decided p s start h = no_base_decided p start h
 
 pub base_decided : (p : Place) (m : Meaning) (start : Option Gives) → IsTyped start → Decided (base_row p m start)
@@ -232,7 +239,7 @@ read_card_decided : (p : Place) (parts : List Part) → ArePlain parts → Decid
 read_card_decided p parts h = star_decided p parts _ (variables_read_decided p parts (λ ts. card_strings p ts (Good Statement)) (λ ts. card_strings_decided p ts (Good Statement) good_is))
 
 write_decided : (p : Place) (parts : List Part) → ArePlain parts → Decided (write_row p parts)
-write_decided p parts h = no_star_decided p parts _ h (λ more. values_read_decided p parts (λ ts. no_references p ts (Good Statement)) more (λ ts. no_references_decided p ts (Good Statement) good_is))
+write_decided p parts h = no_star_decided p parts _ h (λ more. unless_decided (some_placed parts) 39 p _ (values_read_decided p parts (λ ts. no_references p ts (Good Statement)) more (λ ts. no_references_decided p ts (Good Statement) good_is)))
 
 standard_decided : (p : Place) (s : Standard) (parts : List Part) → ArePlain parts → Decided (standard_row p s parts)
 standard_decided p (standard.Function op) parts h = one_value_decided p (standards.takes op) parts (Simple (basic_type (standards.gives op))) h
@@ -241,6 +248,7 @@ standard_decided p standard.ReadCard parts h = read_card_decided p parts h
 standard_decided p (standard.Write first) parts h = write_decided p parts h
 standard_decided p standard.IoControl parts h = one_value_decided p basic.Integer parts Statement h
 standard_decided p standard.MaxInteger parts h = fault_is
+standard_decided p (standard.Variable width) parts h = fault_is
 
 array_decided : (p : Place) (t : ValueType) (n : ℕ) (parts : List Part) → ArePlain parts → Decided (array_row p t n parts)
 array_decided p t n parts h = no_star_decided p parts _ h (λ more. so_many_decided p n parts _ (ints_read_decided p parts (Good (Simple t)) more good_is))
@@ -284,6 +292,7 @@ subscripts_decided : (p : Place) (parts : List Part) (v : Verdict) → ArePlain 
 subscripts_decided p [] v h d = d
 subscripts_decided p (a_star ∷ parts) v h d = subscripts_decided p parts v h.1 d
 subscripts_decided p (a_phrase is_variable g ∷ parts) v h d = int_decided p g (subscripts p parts v) (subscripts_decided p parts v h.1 d)
+subscripts_decided p (a_setting ∷ parts) v h d = int_decided p Statement (subscripts p parts v) (subscripts_decided p parts v h.1 d)
 subscripts_decided p (part ∷ parts) v h d = absurd h.0
 
 pub subarray_decided : (p : Place) (n : ℕ) (parts : List Part) → ArePlain parts → Decided (subarray_row p n parts)

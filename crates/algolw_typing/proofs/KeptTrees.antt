@@ -1,5 +1,5 @@
 -- The typed tree of a phrase forgets nothing of it.
-use Rattle.std.proofs.Common.{◌≡◌, ℕ, List, [], ◌∷◌, ◌++◌, Bool, true, false, Option, Some, None, refl}
+use Rattle.std.proofs.Common.{◌≡◌, ℕ, List, [], ◌∷◌, ◌++◌, Bool, true, false, Option, Some, None, refl, inl, inr, ◌⊎◌}
 use Rattle.std.specs.Bool.{⊤}
 use Rattle.value_ops.specs.declared.places.Place.{Place}
 use Rattle.algolw_tree.specs.Tree as tree
@@ -7,11 +7,11 @@ use Rattle.algolw_typing.specs.Names.{Entry, declared}
 use Rattle.algolw_typing.specs.Types.{ValueType, Statement, Simple}
 use Rattle.algolw_typing.specs.Verdicts.{Verdict, Good, Fault, Silent, type_of}
 use Rattle.algolw_typing.specs.Meanings.{Meaning, an_array, Part, a_phrase, typeless}
-use Rattle.algolw_typing.specs.Actuals.{Reading, as_phrases, Wanted, wanted, behind, name_read, is_subarray, subarray_row}
+use Rattle.algolw_typing.specs.Actuals.{Reading, as_phrases, Wanted, phrase_wanted, wanted, behind, name_read, is_subarray, subarray_row}
 use Rattle.algolw_typing.specs.Scopes.{Known, Scopes, formal_scope, names_of_block, label_entries, control_scope}
 use Rattle.algolw_typing.specs.Typed as typed
-use Rattle.algolw_typing.specs.Typing.{Out, counted, gives, as_verdict, uncounted, link_verdict, read_as, name_given, parts_of_kind, PartOut, phrase_given, subarray_given, array_given, list_given, given, meaning_of, use_with_list, use_as_base, part_verdict, list_verdict, reading_of, declare_at, typed_formals, typed_groups, item_verdict, then_item, typed_phrase, typed_kind, typed_phrases, typed_links, first_list, more_lists, typed_parts, typed_items, typed_bounds, typed_decls, typed_decl, meanings}
-use Rattle.algolw_typing.specs.Kept.{counted_as, KeepsDeclared, KeepsFormals, KeepsGroups, Keeps, KeepsPhrases, KeepsLinks, KeepsLists, KeepsActuals, KeepsItems, KeepsBounds, KeepsDecls, KeepsDecl}
+use Rattle.algolw_typing.specs.Typing.{Out, counted, gives, as_verdict, uncounted, link_verdict, read_as, name_given, parts_of_kind, PartOut, phrase_given, subarray_given, array_given, list_given, given, is_setting, setting_given, meaning_of, use_with_list, use_as_base, part_verdict, list_verdict, reading_of, declare_at, typed_formals, typed_groups, item_verdict, then_item, typed_phrase, typed_kind, typed_phrases, typed_links, first_list, more_lists, typed_parts, typed_items, typed_bounds, typed_decls, typed_decl, meanings}
+use Rattle.algolw_typing.specs.Kept.{counted_as, IsSetting, KeepsDeclared, KeepsFormals, KeepsGroups, Keeps, KeepsPhrases, KeepsLinks, KeepsLists, KeepsActuals, KeepsItems, KeepsBounds, KeepsDecls, KeepsDecl}
 
 -- a kind that is not the empty phrase
 abbrev IsFull : typed.Kind → Type 0
@@ -43,6 +43,10 @@ read_keeps a (a_phrase v g) o h = h
 read_keeps a typeless o h = h
 read_keeps a part o h = untyped_keeps a o.node h
 
+-- A setting keeps its phrase as the right part of an assignment does, and any other actual as it stands.
+abbrev KeepsGiven : tree.Phrase → typed.Node → Type 0
+KeepsGiven a n = Keeps false a n ⊎ IsSetting a × Keeps true a n
+
 name_keeps : (a : tree.Phrase) (w : Wanted) (m : Option Meaning) (o : Out) → Keeps false a o.node → Keeps false a (name_given w m o).node
 name_keeps a w None o h = h
 name_keeps a w (Some m) o h = read_keeps a (name_read w m o.verdict) o h
@@ -58,11 +62,23 @@ list_keeps : (a : tree.Phrase) (p : Place) (w : Wanted) (m : Option Meaning) (o 
 list_keeps a p w (Some (an_array t n)) o h = array_keeps a p w t n (parts_of_kind (typed.kind o.node)) o h
 list_keeps a p w m o h = h
 
-given_keeps : (path : Scopes) (w : Wanted) (a : tree.Phrase) (o : Out) → Keeps false a o.node → Keeps false a (given path w a o).node
-given_keeps path w (tree.At p f (tree.Named x tree.no_lists)) o h = name_keeps (tree.At p f (tree.Named x tree.no_lists)) w (meaning_of (declared path x)) o h
-given_keeps path w (tree.At p f (tree.Named x (tree.list_and (tree.OfActuals q actuals) tree.no_lists))) o h = list_keeps (tree.At p f (tree.Named x (tree.list_and (tree.OfActuals q actuals) tree.no_lists))) p w (meaning_of (declared path x)) o h
-given_keeps path w (tree.At p f (tree.Named x lists)) o h = h
-given_keeps path w a o h = h
+setting_keeps : (path : Scopes) (w : Wanted) (p f : Place) (a b : tree.Phrase) (o : Out) → Keeps false (tree.At p f (tree.Assign a b)) o.node → KeepsGiven (tree.At p f (tree.Assign a b)) (given path w (tree.At p f (tree.Assign a b)) o).node
+setting_keeps path phrase_wanted p f (tree.At q e (tree.Named x tree.no_lists)) b o h = go (is_setting path phrase_wanted (tree.At q e (tree.Named x tree.no_lists)) b)
+  where
+    a : tree.Phrase
+    a = tree.At p f (tree.Assign (tree.At q e (tree.Named x tree.no_lists)) b)
+
+    go : (c : Bool) → KeepsGiven a (elim c as (λ c. PartOut) [ true ↦ setting_given o | false ↦ phrase_given false o ]).node
+    go true = inr (tt, right_keeps a o.node h)
+    go false = inl h
+setting_keeps path w p f a b o h = inl h
+
+given_keeps : (path : Scopes) (w : Wanted) (a : tree.Phrase) (o : Out) → Keeps false a o.node → KeepsGiven a (given path w a o).node
+given_keeps path w (tree.At p f (tree.Named x tree.no_lists)) o h = inl (name_keeps (tree.At p f (tree.Named x tree.no_lists)) w (meaning_of (declared path x)) o h)
+given_keeps path w (tree.At p f (tree.Named x (tree.list_and (tree.OfActuals q actuals) tree.no_lists))) o h = inl (list_keeps (tree.At p f (tree.Named x (tree.list_and (tree.OfActuals q actuals) tree.no_lists))) p w (meaning_of (declared path x)) o h)
+given_keeps path w (tree.At p f (tree.Named x lists)) o h = inl h
+given_keeps path w (tree.At p f (tree.Assign a b)) o h = setting_keeps path w p f a b o h
+given_keeps path w a o h = inl h
 
 -- Declarations keep their names, with the modes and dimensions of formals.
 declared_kept : (xs : List tree.Placed) → KeepsDeclared xs (declare_at xs)

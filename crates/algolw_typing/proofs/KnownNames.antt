@@ -10,7 +10,7 @@ use Rattle.algolw_tree.specs.Standards as standards
 use Rattle.algolw_typing.specs.Names.{Entry}
 use Rattle.algolw_typing.specs.Types.{ValueType, Gives, Statement, Simple, Str, Reference, has}
 use Rattle.algolw_typing.specs.Verdicts.{Verdict, Good, Fault, part, value}
-use Rattle.algolw_typing.specs.Meanings.{Meaning, a_variable, an_array, a_procedure, a_procedure_formal, a_class, a_field, a_label, a_control, a_standard, FormalType, by_name, by_value, by_result, by_value_result, for_array, for_procedure, gives_of, basic_type, standard_alone, procedure_alone, alone_row, part_of_string, part_row, Part, a_star, a_phrase, as_array, as_procedure, typeless, all_read, no_star, of_phrase, ints_read, field_values, values_read, variables_read, no_references, card_strings, field_of, one_part, standard_row}
+use Rattle.algolw_typing.specs.Meanings.{Meaning, a_variable, an_array, a_procedure, a_procedure_formal, a_class, a_field, a_label, a_control, a_standard, FormalType, by_name, by_value, by_result, by_value_result, for_array, for_procedure, gives_of, basic_type, standard_alone, procedure_alone, alone_row, part_of_string, part_row, Part, a_star, a_phrase, a_setting, as_array, as_procedure, typeless, all_read, no_star, of_phrase, ints_read, field_values, values_read, variables_read, no_references, card_strings, field_of, one_part, standard_row}
 use Rattle.algolw_typing.specs.Actuals.{Reading, value_actual, result_actual, value_result_actual, array_actual, statement_actual, function_actual, procedure_actual, table_a, actuals_fit, list_row}
 use Rattle.algolw_typing.specs.Scopes.{Known, written}
 use Rattle.algolw_typing.specs.Typing.{Out, gives, use_of, use_alone, use_with_list, part_verdict, list_verdict}
@@ -52,6 +52,7 @@ procedure_alone_told p result (f ∷ formals) h = a_fault
 
 standard_alone_told : {classes : List Place} (p : Place) (s : Standard) → Tells classes (standard_alone p s)
 standard_alone_told p standard.MaxInteger = an_integer
+standard_alone_told p (standard.Variable width) = an_integer
 standard_alone_told p s = a_fault
 
 alone_told : {classes : List Place} (p : Place) (m : Meaning) (d : Place) → KnowsMeaning classes d m → Tells classes (alone_row p m d)
@@ -87,6 +88,7 @@ no_star_told p (part ∷ parts) v h = no_star_told p parts v h
 
 of_phrase_told : {classes : List Place} (part : Part) (row : Gives → Verdict) → ((g : Gives) → Tells classes (row g)) → Tells classes (of_phrase part row)
 of_phrase_told (a_phrase v g) row h = h g
+of_phrase_told a_setting row h = h Statement
 of_phrase_told part row h = silence
 
 one_part_told : {classes : List Place} (p : Place) (parts : List Part) (row : Gives → Verdict) → ((g : Gives) → Tells classes (row g)) → Tells classes (one_part p parts row)
@@ -105,6 +107,7 @@ field_values_told p (t ∷ ts) (part ∷ parts) v h = let more = field_values_to
 
 values_read_told : {classes : List Place} (p : Place) (parts : List Part) (row : List ValueType → Verdict) → ((ts : List ValueType) → Tells classes (row ts)) → Tells classes (values_read p parts row)
 values_read_told p [] row h = h []
+values_read_told p (a_setting ∷ parts) row h = values_read_told p parts row h
 values_read_told p (part ∷ parts) row h =
     of_phrase_told part (λ g. value p g (λ t. values_read p parts (λ ts. row (t ∷ ts)))) (λ g. value_told p g (λ t. values_read p parts (λ ts. row (t ∷ ts))) (λ t. values_read_told p parts (λ ts. row (t ∷ ts)) (λ ts. h (t ∷ ts))))
 
@@ -191,6 +194,7 @@ standard_told p standard.ReadCard parts = search listed_tellings
 standard_told p (standard.Write first) parts = search listed_tellings
 standard_told p standard.IoControl parts = search listed_tellings
 standard_told p standard.MaxInteger parts = a_fault
+standard_told p (standard.Variable width) parts = a_fault
 
 field_of_told : {classes : List Place} (p c : Place) (t u : ValueType) → KnowsType classes t → Tells classes (field_of p c t u)
 field_of_told p c t (Reference s) h = unless_told (has s c) 37 p (Good (Simple t)) (a_type h)

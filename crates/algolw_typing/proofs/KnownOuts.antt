@@ -74,7 +74,7 @@ two_sound a b m n i j h = let none = none_two (faults a) (faults b) h in both m 
 pub relation_fine : {names classes : List Place} (p f : Place) (op : RelOp) (a b : Out) (m n : Naming) → Fine names classes a m → Fine names classes b n → Fine names classes (relation_out p f op a b) (and m n)
 relation_fine p f op a b m n i j = made (faults a ++ faults b) p f (two_parts (gives a) (gives b) (relation_row op p)) (typed.Relation op a.node b.node) (and m n) (two_told (gives a) (gives b) (relation_row op p) (relation_told op p)) (two_sound a b m n i j)
 
-uncounted_known : (names classes : List Place) (n : typed.Node) → Knows names classes n → Knows names classes (uncounted n)
+pub uncounted_known : (names classes : List Place) (n : typed.Node) → Knows names classes n → Knows names classes (uncounted n)
 uncounted_known names classes (typed.At p f g s (typed.Assign a b)) h = h
 uncounted_known names classes (typed.At p f g s k) h = h
 

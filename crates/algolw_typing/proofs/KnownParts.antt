@@ -11,14 +11,14 @@ use Rattle.algolw_typing.specs.Meanings.{Meaning, an_array, Part, a_phrase, type
 use Rattle.algolw_typing.specs.Actuals.{Wanted, name_read, is_subarray, subarray_row}
 use Rattle.algolw_typing.specs.Scopes.{Known, Scopes}
 use Rattle.algolw_typing.specs.Typed as typed
-use Rattle.algolw_typing.specs.Typing.{Out, faults, meaning_of, target, ListsOut, listed, PartsOut, no_parts, star_and, PartOut, given_and, list_out, part_out, named_out, phrase_given, read_as, name_given, parts_of_kind, subarray_given, array_given, list_given, given, variable_name}
+use Rattle.algolw_typing.specs.Typing.{Out, faults, meaning_of, target, ListsOut, listed, PartsOut, no_parts, star_and, PartOut, given_and, list_out, part_out, named_out, phrase_given, read_as, name_given, parts_of_kind, subarray_given, array_given, list_given, given, is_setting, setting_given, variable_name}
 use Rattle.algolw_typing.specs.Naming.{Naming, and, nothing}
 use Rattle.algolw_typing.specs.Known.{Knows, KnowsKind, KnowsLists, KnowsActuals}
 use Rattle.algolw_typing.proofs.GoodScopes.{NoFaults, none_first, none_second, none_two}
 use Rattle.algolw_typing.proofs.KnownTypes.{Tells}
 use Rattle.algolw_typing.proofs.KnownNames.{FoundIs}
 use Rattle.algolw_typing.proofs.KnownScopes.{IsHad}
-use Rattle.algolw_typing.proofs.KnownOuts.{Sound, Fine, both, made}
+use Rattle.algolw_typing.proofs.KnownOuts.{Sound, Fine, both, made, uncounted_known}
 
 -- ---- a name and the lists behind it
 
@@ -79,6 +79,9 @@ Inner names classes o n = NoFaults o.inside → Sound classes (KnowsKind names c
 phrase_given_fine : {names classes : List Place} (v : Bool) (o : Out) (n : Naming) → Fine names classes o n → FineGiven names classes (phrase_given v o) n
 phrase_given_fine v o n i = record { sound = i.sound }
 
+setting_given_fine : {names classes : List Place} (o : Out) (n : Naming) → Fine names classes o n → FineGiven names classes (setting_given o) n
+setting_given_fine {names = names} {classes = classes} o n i = record { sound = λ h. let s = i.sound h in record { tree = uncounted_known names classes o.node s.tree; fields = s.fields } }
+
 untyped_known : (names classes : List Place) (n : typed.Node) → KnowsKind names classes (typed.kind n) → Knows names classes (typed.untyped n)
 untyped_known names classes (typed.At p f g s k) h = (tt, h)
 
@@ -129,4 +132,5 @@ pub actual_fine : {names classes : List Place} (path : Scopes) (w : Wanted) (a :
 actual_fine path w (tree.At p f (tree.Named x tree.no_lists)) o n i j = name_given_fine w (declared path x) o n i j
 actual_fine path w (tree.At p f (tree.Named x (tree.list_and (tree.OfActuals q _) tree.no_lists))) o n i j = list_given_fine p w (declared path x) o n i j
 actual_fine path w (tree.At p f (tree.Named x lists)) o n i j = phrase_given_fine (variable_name (meaning_of (declared path x))) o n i
+actual_fine path w (tree.At p f (tree.Assign a b)) o n i j = either_given (is_setting path w a b) (setting_given o) (phrase_given false o) n (setting_given_fine o n i) (phrase_given_fine false o n i)
 actual_fine path w a o n i j = phrase_given_fine false o n i

@@ -5,7 +5,7 @@ use Rattle.algolw_tree.specs.Tree.{Phrase, Lists, no_lists, list_and, OfActuals,
 use Rattle.algolw_typing.specs.Names.{Entry, declared}
 use Rattle.algolw_typing.specs.Types.{ValueType, Gives, Statement, Simple, Reference, fits}
 use Rattle.algolw_typing.specs.Verdicts.{Verdict, Good, Fault, Silent, type_of, unless, value}
-use Rattle.algolw_typing.specs.Meanings.{Meaning, an_array, a_class, a_label, no_base, Part, a_star, a_phrase, as_array, as_procedure, with_formals, not_read, typeless, all_read, no_star, of_phrase, field_values, class_row}
+use Rattle.algolw_typing.specs.Meanings.{Meaning, an_array, a_class, a_label, no_base, Part, a_star, a_phrase, a_setting, as_array, as_procedure, with_formals, not_read, typeless, all_read, no_star, of_phrase, field_values, class_row}
 use Rattle.algolw_typing.specs.Actuals.{as_phrases}
 use Rattle.algolw_typing.specs.Scopes.{Known, Scopes}
 use Rattle.algolw_typing.specs.Typing.{gives, onward, use_of, use_as_base, use_with_list, part_verdict, list_verdict, reading_of, typed_phrase, typed_parts, first_list, more_lists}
@@ -25,6 +25,7 @@ all_read_none : (parts : List Part) (v : Verdict) → type_of v ≡ None → typ
 all_read_none [] v h = h
 all_read_none (a_star ∷ parts) v h = all_read_none parts v h
 all_read_none (a_phrase b g ∷ parts) v h = all_read_none parts v h
+all_read_none (a_setting ∷ parts) v h = all_read_none parts v h
 all_read_none (as_array t n ∷ parts) v h = all_read_none parts v h
 all_read_none (as_procedure t ∷ parts) v h = all_read_none parts v h
 all_read_none (with_formals ∷ parts) v h = all_read_none parts v h
@@ -88,6 +89,7 @@ only_value g p (Simple t) row o = o t
 
 only_of_phrase : (g : Gives) (a : Part) (row : Gives → Verdict) → ((b : Gives) → Only g (row b)) → Only g (of_phrase a row)
 only_of_phrase g (a_phrase b a) row o = o a
+only_of_phrase g a_setting row o = o Statement
 only_of_phrase g a_star row o = λ h e. cc
 only_of_phrase g (as_array t n) row o = λ h e. cc
 only_of_phrase g (as_procedure t) row o = λ h e. cc
@@ -99,6 +101,7 @@ only_all_read : (g : Gives) (parts : List Part) (v : Verdict) → Only g v → O
 only_all_read g [] v o = o
 only_all_read g (a_star ∷ parts) v o = only_all_read g parts v o
 only_all_read g (a_phrase b a ∷ parts) v o = only_all_read g parts v o
+only_all_read g (a_setting ∷ parts) v o = only_all_read g parts v o
 only_all_read g (as_array t n ∷ parts) v o = only_all_read g parts v o
 only_all_read g (as_procedure t ∷ parts) v o = only_all_read g parts v o
 only_all_read g (with_formals ∷ parts) v o = only_all_read g parts v o
@@ -109,6 +112,7 @@ only_no_star : (g : Gives) (p : Place) (parts : List Part) (v : Verdict) → Onl
 only_no_star g p [] v o = o
 only_no_star g p (a_star ∷ parts) v o = λ h e. cc
 only_no_star g p (a_phrase b a ∷ parts) v o = only_no_star g p parts v o
+only_no_star g p (a_setting ∷ parts) v o = only_no_star g p parts v o
 only_no_star g p (as_array t n ∷ parts) v o = only_no_star g p parts v o
 only_no_star g p (as_procedure t ∷ parts) v o = only_no_star g p parts v o
 only_no_star g p (with_formals ∷ parts) v o = only_no_star g p parts v o

@@ -11,12 +11,12 @@ use Rattle.algolw_typing.specs.Meanings.{Meaning, an_array, a_procedure, a_proce
 use Rattle.algolw_typing.specs.Actuals.{Reading, as_phrases, for_formals, at_run_time, Wanted, phrase_wanted, formal_wanted, none_wanted, any_wanted, wanted, behind, wants_procedure, procedure_name, is_variable_name, phrase_part, name_read, has_star, subarray_row, subarray_part}
 use Rattle.algolw_typing.specs.Scopes.{Known, Scopes}
 use Rattle.algolw_typing.specs.Typed as typed
-use Rattle.algolw_typing.specs.Typing.{Out, faults, gives, out, meaning_of, ListsOut, listed, use_alone, use_with_list, PartsOut, no_parts, star_and, PartOut, given_and, list_out, part_out, named_out, reading_of, phrase_given, variable_name, read_as, name_given, part_of_node, parts_of_actuals, subarray_given, array_given, list_given, given, typed_phrase, typed_parts}
+use Rattle.algolw_typing.specs.Typing.{Out, faults, gives, out, meaning_of, ListsOut, listed, use_alone, use_with_list, PartsOut, no_parts, star_and, PartOut, given_and, list_out, part_out, named_out, reading_of, phrase_given, variable_name, read_as, name_given, part_of_node, parts_of_actuals, subarray_given, array_given, list_given, given, uncounted, is_setting, setting_part, setting_given, typed_phrase, typed_parts}
 use Rattle.algolw_typing.specs.Whole.{IsWhole, IsWholeActual, KindIsWhole, ActualsAreWhole, StandsForMore}
 use Rattle.algolw_typing.proofs.Decided.{Decided, IsTyped, has_type}
 use Rattle.algolw_typing.proofs.DecidedNames.{IsRead, IsPlain, ArePlain, ReadsPhrases, ReadBy, alone_decided, subarray_decided}
 use Rattle.algolw_typing.proofs.GoodScopes.{NoFaults, none_first, none_two, GoodMeans, GoodFound, GoodPath, found_good}
-use Rattle.algolw_typing.proofs.SoundOuts.{IsGood, a_type, Fine, settled, good_of, whole_has, FineLists}
+use Rattle.algolw_typing.proofs.SoundOuts.{IsGood, a_type, Fine, settled, good_of, whole_has, uncounted_whole, FineLists}
 
 -- ---- what is shown of a part, and of parts
 
@@ -104,6 +104,23 @@ phrase_fine w v o i h =
       whole = actual_whole o.node s.whole;
       is_plain = λ k. phrase_plain v (gives o) s.has;
       node_plain = λ k. phrase_plain false (typed.gives o.node) (whole_has o.node s.whole);
+    }
+
+setting_read : (g : Option Gives) → IsTyped g → IsRead (setting_part g)
+setting_read _ (has_type {g = g}) = tt
+
+setting_plain : (g : Option Gives) → IsTyped g → IsPlain (setting_part g)
+setting_plain _ (has_type {g = g}) = tt
+
+setting_fine : (w : Wanted) (o : Out) → Fine o → NoFaults (faults o) → SoundGiven w (setting_given o)
+setting_fine w o i h =
+    let s = settled o i h in
+    let whole = uncounted_whole o.node s.whole in
+    record {
+      is_read = setting_read (gives o) s.has;
+      whole = actual_whole (uncounted o.node) whole;
+      is_plain = λ k. setting_plain (gives o) s.has;
+      node_plain = λ k. phrase_plain false (typed.gives (uncounted o.node)) (whole_has (uncounted o.node) whole);
     }
 
 -- a name that is read as a phrase
@@ -241,4 +258,7 @@ phrase_given_fine path good w (tree.At p f (tree.Named x tree.no_lists)) i j h =
 phrase_given_fine path good w (tree.At p f (tree.Named x (tree.list_and (tree.OfActuals q actuals) tree.no_lists))) i j h =
     name_list_fine p f q w (declared path x) (typed_parts path (reading_of (declared path x)) actuals) (found_good path x good) i j h
 phrase_given_fine path good w (tree.At p f (tree.Named x lists)) i j h = phrase_fine w (variable_name (meaning_of (declared path x))) (typed_phrase path (tree.At p f (tree.Named x lists))) i h
+phrase_given_fine path good w (tree.At p f (tree.Assign a b)) i j h =
+    let o = typed_phrase path (tree.At p f (tree.Assign a b)) in
+    either_given (is_setting path w a b) w (setting_given o) (phrase_given false o) (setting_fine w o i) (phrase_fine w false o i) h
 phrase_given_fine path good w a i j h = phrase_fine w false (typed_phrase path a) i h

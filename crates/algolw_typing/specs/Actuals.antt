@@ -1,6 +1,7 @@
 -- Table A: an actual against the formal that it stands for; and a name with a list that is no substring list.
 use Rattle.std.specs.Prelude.{ℕ, suc, List, [], ◌∷◌, Option, Some, None, Bool, true, false, ◌&&◌, nat_eq, length}
 use Rattle.value_ops.specs.declared.places.Place.{Place}
+use Rattle.algolw_tree.specs.declared.standard.Standard.TheVariants as standard
 use Rattle.algolw_typing.specs.Types.{ValueType, Gives, Statement, fits, is_same}
 use Rattle.algolw_typing.specs.Verdicts.{Verdict, Good, Fault, Silent, unless, value, int, statement, type_of}
 use Rattle.algolw_typing.specs.Meanings.{Meaning, a_variable, an_array, a_procedure, a_procedure_formal, a_class, a_field, a_label, a_control, a_standard, FormalType, by_name, by_value, by_result, by_value_result, for_array, for_procedure, Part, a_star, a_phrase, as_array, as_procedure, with_formals, not_read, typeless, gives_of, all_read, of_phrase, no_star, right_number, array_row, class_row, field_row, standard_row}
@@ -116,12 +117,13 @@ procedure_name true result formals = as_procedure result
 procedure_name false result [] = a_phrase false (gives_of result)
 procedure_name false result (f ∷ formals) = with_formals
 
--- A variable is a name of a simple variable, of a VALUE, RESULT, VALUE RESULT or name formal, an array with all its subscripts, a field
+-- A variable is a name of a simple variable, a standard one too, of a VALUE, RESULT, VALUE RESULT or name formal, an array with all its subscripts, a field
 -- designator, or a substring of one of these: so the name of a phrase that has a type tells it.
 abbrev pub is_variable_name : Meaning → Bool
 is_variable_name (a_variable t) = true
 is_variable_name (an_array t n) = true
 is_variable_name (a_field c t) = true
+is_variable_name (a_standard (standard.Variable width)) = true
 is_variable_name meaning = false
 
 abbrev pub phrase_part : Bool → Option Gives → Part

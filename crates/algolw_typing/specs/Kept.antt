@@ -1,5 +1,5 @@
 -- That the typed tree of a phrase forgets nothing of it: its names are tied to their declarations and its types to what they mean, and the rest is there.
-use Rattle.std.specs.Prelude.{◌≡◌, ⊤, List, [], ◌∷◌, Bool, true, false, Option, Some, None}
+use Rattle.std.specs.Prelude.{◌≡◌, ◌⊎◌, ⊤, List, [], ◌∷◌, Bool, true, false, Option, Some, None}
 use Rattle.value_ops.specs.declared.places.Place.{Place}
 use Rattle.algolw_tree.specs.Tree as tree
 use Rattle.algolw_typing.specs.Types.{Gives, Statement}
@@ -8,12 +8,17 @@ use Rattle.algolw_typing.specs.Scopes.{Scopes}
 use Rattle.algolw_typing.specs.Typing.{typed_phrase}
 
 -- where a node is counted as a statement, by what it gives and is: at its first token, where it is a statement, but an empty phrase nowhere,
--- and an assignment at the right of another not again
+-- and an assignment at the right of another not again, nor one that is a setting
 abbrev pub counted_as : (is_right : Bool) → Place → Option Gives → typed.Kind → Option Place
 counted_as r f (Some Statement) typed.Empty = None
 counted_as true f (Some Statement) (typed.Assign a b) = None
 counted_as r f (Some Statement) k = Some f
 counted_as r f g k = None
+
+-- an assignment to a name alone, which in a list may be a setting
+abbrev pub IsSetting : tree.Phrase → Type 0
+IsSetting (tree.At p f (tree.Assign (tree.At q e (tree.Named x tree.no_lists)) b)) = ⊤
+IsSetting a = ⊥
 
 -- names that are declared: each is there, by its place
 abbrev pub KeepsDeclared : List tree.Placed → List typed.Placed → Type 0
@@ -86,7 +91,7 @@ abbrev mutual
   pub KeepsActuals : tree.Actuals → typed.Actuals → Type 0
   KeepsActuals tree.no_actuals typed.no_actuals = ⊤
   KeepsActuals (tree.actual_and (tree.Star q) actuals) (typed.actual_and (typed.Star r) as_) = (r ≡ q) × KeepsActuals actuals as_
-  KeepsActuals (tree.actual_and (tree.Given a) actuals) (typed.actual_and (typed.Given b) as_) = Keeps false a b × KeepsActuals actuals as_
+  KeepsActuals (tree.actual_and (tree.Given a) actuals) (typed.actual_and (typed.Given b) as_) = (Keeps false a b ⊎ IsSetting a × Keeps true a b) × KeepsActuals actuals as_
   KeepsActuals _ _ = ⊥
 
   pub KeepsItems : tree.Items → typed.Items → Type 0

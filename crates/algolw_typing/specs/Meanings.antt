@@ -40,6 +40,7 @@ gives_of (Some t) = Simple t
 -- its type; a procedure with formals, a standard procedure or function 39
 abbrev pub standard_alone : Place → Standard → Verdict
 standard_alone p standard.MaxInteger = Good (Simple Integer)
+standard_alone p (standard.Variable width) = Good (Simple Integer)
 standard_alone p s = Fault 39 p
 
 abbrev pub procedure_alone : Place → Option ValueType → List FormalType → Verdict
@@ -72,6 +73,7 @@ procedure_as_base p result formals start = no_base p start
 
 abbrev pub standard_as_base : Place → Standard → Option Gives → Verdict
 standard_as_base p standard.MaxInteger start = Good (Simple Integer)
+standard_as_base p (standard.Variable width) start = Good (Simple Integer)
 standard_as_base p s start = no_base p start
 
 -- the base of a substring list that follows a name directly, at the name: 41 on an array, a procedure with formals or without type, a
@@ -103,6 +105,8 @@ part_row q n base start = int q start (part_of_string q n base)
 pub data Part : Type 0 where
   a_star : Part
   a_phrase : (is_variable : Bool) → Gives → Part
+  -- an assignment to a standard variable, in a list of phrases
+  a_setting : Part
   -- an array, or a subarray, which has as many dimensions as stars
   as_array : ValueType → (dimensions : ℕ) → Part
   -- a procedure's or a procedure formal's name alone, read as a procedure
@@ -130,9 +134,10 @@ no_star p (part ∷ parts) then_ = no_star p parts then_
 abbrev pub right_number : Place → ℕ → List Part → Verdict → Verdict
 right_number p n parts then_ = unless (nat_eq n (length parts)) 39 p then_
 
--- what a phrase in a list gives
+-- what a phrase in a list gives; a setting is a statement
 abbrev pub of_phrase : Part → (Gives → Verdict) → Verdict
 of_phrase (a_phrase v g) then_ = then_ g
+of_phrase a_setting then_ = then_ Statement
 of_phrase part then_ = Silent
 
 -- Int of each
@@ -145,9 +150,16 @@ abbrev pub field_values : Place → List ValueType → List Part → Verdict →
 field_values p (t ∷ ts) (part ∷ parts) then_ = of_phrase part (λ g. value p g (λ u. unless (fits u t) 37 p (field_values p ts parts then_)))
 field_values p ts parts then_ = then_
 
--- 35 where any part is a statement
+-- whether any part is no setting
+abbrev pub some_placed : List Part → Bool
+some_placed [] = false
+some_placed (a_setting ∷ parts) = some_placed parts
+some_placed (part ∷ parts) = true
+
+-- 35 where any part is a statement and no setting
 abbrev pub values_read : Place → List Part → (List ValueType → Verdict) → Verdict
 values_read p [] then_ = then_ []
+values_read p (a_setting ∷ parts) then_ = values_read p parts then_
 values_read p (part ∷ parts) then_ = of_phrase part (λ g. value p g (λ t. values_read p parts (λ ts. then_ (t ∷ ts))))
 
 -- 38 where any part is no variable
@@ -190,9 +202,9 @@ one_part p parts then_ = Fault 39 p
 abbrev pub field_row : Place → Place → ValueType → List Part → Verdict
 field_row p c t parts = no_star p parts (one_part p parts (λ g. value p g (field_of p c t)))
 
--- WRITE, WRITEON, at the name: 40 a `*`; 35; 37 a reference
+-- WRITE, WRITEON, at the name: 40 a `*`; 39 all parts are settings; 35 a statement that is no setting; 37 a reference
 abbrev pub write_row : Place → List Part → Verdict
-write_row p parts = no_star p parts (values_read p parts (λ ts. no_references p ts (Good Statement)))
+write_row p parts = no_star p parts (unless (some_placed parts) 39 p (values_read p parts (λ ts. no_references p ts (Good Statement))))
 
 -- READ, READON, at the name: 40; 38 no variable; 37 a reference
 abbrev pub read_row : Place → List Part → Verdict
@@ -231,3 +243,4 @@ standard_row p standard.ReadCard parts = read_card_row p parts
 standard_row p (standard.Write first) parts = write_row p parts
 standard_row p standard.IoControl parts = one_value_row p basic.Integer parts Statement
 standard_row p standard.MaxInteger parts = Fault 41 p
+standard_row p (standard.Variable width) parts = Fault 41 p

@@ -1,17 +1,18 @@
 -- The type of each phrase in the scopes in which it stands, and the faults: those of the rows of the table, and 30 to 33 of declarations and names.
-use Rattle.std.specs.Prelude.{ℕ, ℤ, List, [], ◌∷◌, ◌++◌, length, Option, Some, None, Bool, true, false}
+use Rattle.std.specs.Prelude.{ℕ, ℤ, List, [], ◌∷◌, ◌++◌, length, Option, Some, None, Bool, true, false, ◌&&◌, not}
 use Rattle.value_ops.specs.declared.places.Place.{Place}
 use Rattle.value_ops.specs.declared.places.Diagnostic.{Diagnostic}
 use Rattle.algolw_tree.specs.declared.phrases.Op.{Op}
 use Rattle.algolw_tree.specs.declared.phrases.RelOp.{RelOp}
+use Rattle.algolw_tree.specs.declared.standard.Standard.TheVariants as standard
 use Rattle.algolw_tree.specs.Tree.{Placed}
 use Rattle.algolw_tree.specs.Tree as tree
 use Rattle.algolw_typing.specs.Names.{Entry, Scope, declared}
 use Rattle.algolw_typing.specs.Types.{ValueType, Gives, Statement, Simple, Integer, Logical, Bits, Str, null_type, fits}
 use Rattle.algolw_typing.specs.Verdicts.{Verdict, Good, Fault, Silent, type_of, fault_of, part, two_parts, all_parts, unless, value}
 use Rattle.algolw_typing.specs.Rows.{bound_row, procedure_row, item_row, if_row, if_else_row, case_value_row, case_do_row, for_row, while_row, assert_row, link_row, negated_row, integer_row, relation_row, is_row}
-use Rattle.algolw_typing.specs.Meanings.{Meaning, a_variable, an_array, a_procedure, a_label, a_control, alone_row, base_row, part_row, Part, a_star, a_phrase, typeless, all_read}
-use Rattle.algolw_typing.specs.Actuals.{Reading, as_phrases, Wanted, wanted, behind, name_read, list_row, is_variable_name, phrase_part, is_subarray, subarray_row, subarray_part}
+use Rattle.algolw_typing.specs.Meanings.{Meaning, a_variable, an_array, a_procedure, a_label, a_control, a_standard, alone_row, base_row, part_row, Part, a_star, a_phrase, a_setting, typeless, all_read}
+use Rattle.algolw_typing.specs.Actuals.{Reading, as_phrases, Wanted, phrase_wanted, wanted, behind, name_read, list_row, is_variable_name, phrase_part, is_subarray, subarray_row, subarray_part}
 use Rattle.algolw_typing.specs.Scopes.{Known, Scopes, procedure_entry, entries, written, spec_faults, spec_type, result_faults, result_type, dimension_fault, good, formal_faults, formal_types, formal_scope, group_faults, class_entries, names_of_block, label_entries, twice, without_twice, bound_count, control_scope, class_fault}
 use Rattle.algolw_typing.specs.Typed as typed
 
@@ -320,11 +321,35 @@ abbrev pub list_given : Place → Wanted → Option Meaning → Out → PartOut
 list_given p w (Some (an_array t n)) o = array_given p w t n (parts_of_kind (typed.kind o.node)) o
 list_given p w m o = phrase_given (variable_name m) o
 
+-- ---- settings: in a list of phrases, assignments to standard variables
+
+abbrev pub is_width : Option Meaning → Bool
+is_width (Some (a_standard (standard.Variable width))) = true
+is_width m = false
+
+abbrev pub is_assignment : tree.Phrase → Bool
+is_assignment (tree.At p f (tree.Assign a b)) = true
+is_assignment a = false
+
+-- Its one left part is the name alone of a standard variable, and its right part is no assignment.
+abbrev pub is_setting : Scopes → Wanted → (left right : tree.Phrase) → Bool
+is_setting path phrase_wanted (tree.At p f (tree.Named x tree.no_lists)) b = is_width (meaning_of (declared path x)) && not (is_assignment b)
+is_setting path w a b = false
+
+abbrev pub setting_part : Option Gives → Part
+setting_part None = typeless
+setting_part (Some g) = a_setting
+
+-- A setting is no statement that is counted.
+abbrev pub setting_given : Out → PartOut
+setting_given o = record { inside = faults o; part = setting_part (gives o); node = uncounted o.node }
+
 -- A phrase in a list, of which this was found as a phrase.
 abbrev pub given : Scopes → Wanted → tree.Phrase → Out → PartOut
 given path w (tree.At p f (tree.Named x tree.no_lists)) o = name_given w (meaning_of (declared path x)) o
 given path w (tree.At p f (tree.Named x (tree.list_and (tree.OfActuals q _) tree.no_lists))) o = list_given p w (meaning_of (declared path x)) o
 given path w (tree.At p f (tree.Named x lists)) o = phrase_given (variable_name (meaning_of (declared path x))) o
+given path w (tree.At p f (tree.Assign a b)) o = elim (is_setting path w a b) [ true ↦ setting_given o | false ↦ phrase_given false o ]
 given path w a o = phrase_given false o
 
 -- ---- blocks

@@ -10,7 +10,7 @@ use value_ops::{RecordId, SimpleType, Text};
 pub enum Variable {
     /// In the cell of this number.
     Cell(u32),
-    /// In the field of this number among those of all records.
+    /// In the field of this number.
     Field(u32),
 }
 
@@ -81,7 +81,7 @@ pub enum Word {
     Record(u32),
     /// The place of the variable in the cell of this number.
     Cell(u32),
-    /// The place of the variable in the field of this number among those of all records.
+    /// The place of the variable in the field of this number.
     Field(u32),
     /// What a machine word has no room for: it stands beside.
     Wide,

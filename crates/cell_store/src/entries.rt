@@ -1,3 +1,4 @@
+use std::mem::size_of;
 use value_ops::{Limit, Place, SimpleType};
 
 /// What a jump to a label of a block cuts back to: how much there was when its declarations had been made.
@@ -9,6 +10,22 @@ pub struct Mark {
     pub depth: u32,
     /// The texts under way.
     pub frames: u32,
+}
+
+/// The widths that a WRITE has set by now: one of them at least.
+#[derive(Clone, Copy)]
+pub enum WidthsSet {
+    /// The columns of an INTEGER.
+    Columns(i32),
+    /// The blanks behind a value that is no string.
+    Blanks(i32),
+    /// Both.
+    Both {
+        /// The columns of an INTEGER.
+        columns: i32,
+        /// The blanks behind a value that is no string.
+        blanks: i32,
+    },
 }
 
 /// What is in scope, or under way. A name goes by its number.
@@ -58,6 +75,8 @@ pub enum Entry {
     },
     /// An actual that is evaluated for a call, which no dump shows.
     Aside,
+    /// The widths of a WRITE under way, which no dump shows.
+    Widths(WidthsSet),
 }
 
 /// What a text is done for.
@@ -101,3 +120,5 @@ pub enum Refusal {
     /// No room was made for it.
     NoRoom,
 }
+
+const _: () = prove!(size_of::<Entry>() == 16);

@@ -14,5 +14,5 @@ pub use cells::{Bounds, Closed, Part, Procedure, Variable, Wide, Word};
 pub use descriptor::Descriptor;
 pub use dimension::Dimension;
 pub use display::PROGRAM;
-pub use entries::{Entry, Frame, Mark, Purpose, Refusal};
+pub use entries::{Entry, Frame, Mark, Purpose, Refusal, WidthsSet};
 pub use store::Store;

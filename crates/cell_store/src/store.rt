@@ -301,6 +301,14 @@ impl Store {
         Ok(())
     }
 
+    /// The entry of this number becomes another.
+    pub fn set_entry(&mut self, at: usize, entry: Entry)
+        requires { at < length self.old.entries }
+        ensures { self.new ≡ record self.old { entries = slice_set self.old.entries at entry } }
+    {
+        self.entries[at] = entry;
+    }
+
     /// Drops all entries but the first so many.
     #[inline(always)]
     pub fn cut_entries(&mut self, kept: u32)

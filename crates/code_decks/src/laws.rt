@@ -1,5 +1,5 @@
 ghost use Rattle.code_decks.specs.BatchDecks.{CodeOfBatchDecks};
-ghost use Rattle.code_decks.specs.CodeTables.{CodeOfCallingDecks, CodeOfManualDecks, CodeOfRunningDecks};
+ghost use Rattle.code_decks.specs.CodeTables.{CodeOfCallingDecks, CodeOfManualDecks, CodeOfRunningDecks, CodeOfWidthDecks};
 ghost use Rattle.code_decks.specs.MoreDecks.{CodeOfMoreDecks};
 
 /// The code of each deck of a table gives what its program means.
@@ -15,6 +15,11 @@ pub fn code_of_calling_decks()
 /// The code of each deck of a table gives what its program means.
 pub fn code_of_manual_decks()
     ensures { CodeOfManualDecks }
+{}
+
+/// The code of each deck of a table gives what its program means.
+pub fn code_of_width_decks()
+    ensures { CodeOfWidthDecks }
 {}
 
 /// So does the code of each of some further decks.

@@ -8,6 +8,7 @@ use crate::calls::{
 };
 use crate::heads::{push_procedure, push_text};
 use crate::texts::{push_class, push_constant, push_name, push_place, push_source, push_type};
+use algolw_tree::Width;
 use stack_code::{Code, Instr, Mode};
 use std::alloc::AllocError;
 use std::fmt::Debug;
@@ -27,6 +28,7 @@ pub(crate) fn push_instruction(out: &mut String, code: &Code, does: Instr) -> Re
             links,
             position,
         } => push_use(out, "Variable", mode, links, position),
+        Instr::Standard { mode, width } => push_standard(out, mode, width),
         Instr::Push => out.push_str("Push"),
         Instr::Reserve => out.push_str("Reserve"),
         Instr::Unary(op) => push_operator(out, "Unary ", &op),
@@ -57,8 +59,19 @@ pub(crate) fn push_instruction(out: &mut String, code: &Code, does: Instr) -> Re
         Instr::Assign { kind, gives: true } => push_type(out, code, "Assign giving ", kind),
         Instr::Assign { kind, gives: false } => push_type(out, code, "Assign ", kind),
         Instr::Assert => out.push_str("Assert"),
-        Instr::Write { first: true } => out.push_str("Write new"),
-        Instr::Write { first: false } => out.push_str("Write on"),
+        Instr::SetWidth { width, position } => {
+            push_operator(out, "SetWidth ", &width)?;
+            push_widths(out, position)
+        }
+        Instr::Write {
+            first: true,
+            position,
+        } => push_write(out, "Write new", position),
+        Instr::Write {
+            first: false,
+            position,
+        } => push_write(out, "Write on", position),
+        Instr::CloseWidths { position } => push_number(out, "CloseWidths 0.", position),
         Instr::Read { next: true, kind } => push_type(out, code, "Read new ", kind),
         Instr::Read { next: false, kind } => push_type(out, code, "Read on ", kind),
         Instr::ReadCard(kind) => push_type(out, code, "ReadCard ", kind),
@@ -167,6 +180,26 @@ fn push_use(
 ) -> Result<(), AllocError> {
     let wanted = mode_word(mode);
     write!(out, "{word} {wanted} {links}.{position}")
+}
+
+/// Writes the use of a standard variable.
+fn push_standard(out: &mut String, mode: Mode, width: Width) -> Result<(), AllocError> {
+    let wanted = mode_word(mode);
+    write!(out, "Standard {wanted} {width:?}")
+}
+
+/// Writes where the widths stand that a WRITE has set, if it has set any.
+fn push_widths(out: &mut String, position: Option<u32>) -> Result<(), AllocError> {
+    match position {
+        Some(position) => push_number(out, " 0.", position),
+        None => Ok(()),
+    }
+}
+
+/// Writes the placing of a value.
+fn push_write(out: &mut String, word: &str, position: Option<u32>) -> Result<(), AllocError> {
+    out.push_str(word)?;
+    push_widths(out, position)
 }
 
 /// Writes the use of an element.

@@ -172,6 +172,7 @@ settled_array x n a given b h memory records fields st = record {
   has = st.has;
   count = st.count;
   as_many = st.as_many;
+  standard = st.standard;
 }
   where
     b' : Base

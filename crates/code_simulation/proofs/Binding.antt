@@ -97,6 +97,7 @@ settled_new v b h memory records fields st = record {
   has = st.has;
   count = st.count;
   as_many = st.as_many;
+  standard = st.standard;
 }
   where
     where_is : (k : ℕ) (y : Where) → Stands (with_new (length memory) b) h k y → ((y ≡ in_cell (length b.slots)) × (k ≡ length memory)) ⊎ Stands b h k y

@@ -246,6 +246,7 @@ module _ (set : Setting) (program : Code) (later : Job → M Bodied state.Given)
       has = st.has;
       count = st.count;
       as_many = st.as_many;
+      standard = st.standard;
     };
     cells = l.agrees.cells;
     names = [];

@@ -53,6 +53,7 @@ listed_shown program b arrays (machine.a_procedure_name text k ∷ entries) name
 listed_shown program b arrays (machine.a_block q i ∷ entries) names p xs active n x = (x.0, ap (λ l. l ++ n ∷ []) x.1, x.2)
 listed_shown program b arrays (machine.declared i d f ∷ entries) names p xs active n x = listed_shown program b arrays entries names p xs active n x
 listed_shown program b arrays (machine.an_aside ∷ entries) names p xs active n x = listed_shown program b arrays entries names p xs active n x
+listed_shown program b arrays (machine.some_widths ws ∷ entries) names p xs active n x = listed_shown program b arrays entries names p xs active n x
 listed_shown program b arrays [] [] p xs active n x = absurd x
 listed_shown program b arrays [] (y ∷ names) p xs active n x = absurd x
 listed_shown program b arrays entries names p xs active n x = absurd x
@@ -80,6 +81,7 @@ settled_variable x v rest b h memory records fields e d a = record {
   has = a.has;
   count = a.count;
   as_many = a.as_many;
+  standard = a.standard;
 }
   where
     up : (k : ℕ) → Has k rest → Has k b.reserved

@@ -67,6 +67,7 @@ module _ (program : List Coded) (b : Base) (h : Heap) (s : State Bodied) (k : �
       ap (λ z. line.Actual (run.first_of (text_of z)) ∷ results.shown_names s names ++ run.all_lines program (mach b h s k held) entries []) x.0.is
       ∙ ap (λ z. line.Actual first ∷ results.shown_names s z ++ run.all_lines program (mach b h s k held) entries []) x.1 ∙ ap (λ z. line.Actual first ∷ z) (lines_are entries [] active x.2)
   lines_are (machine.an_aside ∷ entries) names active x = lines_are entries names active x
+  lines_are (machine.some_widths ws ∷ entries) names active x = lines_are entries names active x
   lines_are entries names active x = absurd x
 
 -- the dump of a machine that shows a state is that state's

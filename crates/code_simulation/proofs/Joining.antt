@@ -206,6 +206,11 @@ entries_there program b arrays (machine.an_aside ∷ entries) names active x j e
     by : ((j ≡ length entries) × (e ≡ machine.an_aside)) ⊎ (on_top_of entries j ≡ Some e) → (on_top_of entries j ≡ Some e → c < length b.slots) → c < length b.slots
     by (inl z) f = absurd (none_is_some (ap (λ o. cell_of (Some o)) (sym z.1) ∙ q))
     by (inr z) f = f z
+entries_there program b arrays (machine.some_widths ws ∷ entries) names active x j e c p q = by (top_less (machine.some_widths ws) entries j e p) (λ z. entries_there program b arrays entries names active x j e c z q)
+  where
+    by : ((j ≡ length entries) × (e ≡ machine.some_widths ws)) ⊎ (on_top_of entries j ≡ Some e) → (on_top_of entries j ≡ Some e → c < length b.slots) → c < length b.slots
+    by (inl z) f = absurd (none_is_some (ap (λ o. cell_of (Some o)) (sym z.1) ∙ q))
+    by (inr z) f = f z
 entries_there program b arrays entries names active x j e c p q = absurd x
 
 module _ (program : List Coded) (w : World) (b : Base) (arrays : List (Option ArrayInfo)) (xs : List Content) (there : (j : ℕ) (e : Entry) (c : ℕ) → on_top_of b.entries j ≡ Some e → cell_of (Some e) ≡ Some c → c < length b.slots) where

@@ -34,6 +34,7 @@ settled_above b b' h memory records fields o a = record {
   has = a.has;
   count = a.count;
   as_many = a.as_many;
+  standard = a.standard;
 }
 
 pub over_above : (program : List Coded) (b : Base) (s : State Bodied) (t : Target) → Above program b s t → Over t.base b

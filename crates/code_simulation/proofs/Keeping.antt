@@ -152,6 +152,7 @@ module _ {w : World} {b : Base} {arrays : List (Option ArrayInfo)} {w' : World} 
   listed_later program l (machine.a_call head site ∷ entries) names (state.in_call name q xs ∷ active) x = (x.0, x.1, x.2, listed_later program l entries [] active x.3)
   listed_later program l (machine.an_actual head ∷ entries) names (state.in_actual first ∷ active) x = (x.0, x.1, listed_later program l entries [] active x.2)
   listed_later program l (machine.an_aside ∷ entries) names active x = listed_later program l entries names active x
+  listed_later program l (machine.some_widths ws ∷ entries) names active x = listed_later program l entries names active x
   listed_later program l entries names active x = absurd x
 
 -- ---- more on the stacks
@@ -263,6 +264,7 @@ settled_pushed x b h memory records fields a = record {
   has = a.has;
   count = a.count;
   as_many = a.as_many;
+  standard = a.standard;
 }
 
 -- a state with so many more cells

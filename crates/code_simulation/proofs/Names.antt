@@ -1,9 +1,9 @@
 -- Names that stand alone.
-use Rattle.std.proofs.Common.{◌≡◌, ℕ, ◌+◌, ◌⊎◌, inl, inr, List, [], ◌∷◌, map, Option, Some, None, refl, sym, ap, ◌∙◌, subst, arith}
+use Rattle.std.proofs.Common.{◌≡◌, ℕ, ◌+◌, ◌<◌, ◌⊎◌, inl, inr, List, [], ◌∷◌, map, Option, Some, None, refl, sym, ap, ◌∙◌, subst, arith}
 use Rattle.std.specs.Prelude.{Bool, true, false}
 use Rattle.value_ops.specs.declared.places.Place.{Place}
 use Rattle.algolw_typing.specs.Types.{is_place}
-use Rattle.program_meaning.specs.Phrases.{Named}
+use Rattle.program_meaning.specs.Phrases.{Named, Variable}
 use Rattle.program_meaning.specs.State as state
 use Rattle.program_meaning.specs.State.{State, Setting, Outcome, on, jump, stop, M, Use, for_value, for_place, ArrayInfo, after}
 use Rattle.program_meaning.specs.Environments.{Env, empty, bind, find, Thing, to_constant, to_variable, to_array, to_label, to_procedure, thunk, Bodied, Job, named}
@@ -11,7 +11,7 @@ use Rattle.stack_code.specs.Instr as instr
 use Rattle.stack_code.specs.Instr.{Instr, Mode, the_value, the_place, as_asked}
 use Rattle.stack_code.specs.Code.{Code, Coded}
 use Rattle.stack_code.specs.Machine as machine
-use Rattle.stack_code.specs.Machine.{Machine, Content, Entry, Frame, Thunk, on_top_of, in_cell}
+use Rattle.stack_code.specs.Machine.{Machine, Content, Entry, Frame, Thunk, on_top_of, in_cell, in_field}
 use Rattle.stack_code.specs.Doing as doing
 use Rattle.stack_code.specs.Doing.{there, cell_of, entry_on, go_on}
 use Rattle.stack_code.specs.Table.{does}
@@ -80,6 +80,9 @@ module _ (set : Setting) (program : Code) where
       ap (λ r. doing.after r (λ purpose. doing.◌>>=◌ (doing.cell_out (links c name) name.position) (λ n. doing.◌>>◌ (doing.variable purpose (in_cell n)) go_on))) (wanted_is mode u b h s k held wanted)
       ∙ ap (λ r. doing.after r (λ n. doing.◌>>◌ (doing.variable u (in_cell n)) go_on)) (cell_is b h s k held c name slot x)
 
+  standard_row : (mode : Mode) (u : Use) (at : Place) (b : Base) (h : Heap) (s : State Bodied) (k n : ℕ) (held : Content) → Wanted b mode u → does set program at (instr.Standard mode n) (mach b h s k held) ≡ doing.after (doing.variable u (in_field n) (mach b h s k held)) (λ z. go_on)
+  standard_row mode u at b h s k n held wanted = ap (λ r. doing.after r (λ purpose. doing.◌>>◌ (doing.variable purpose (in_field n)) go_on)) (wanted_is mode u b h s k held wanted)
+
   formal_row : (mode : Mode) (u : Use) (at : Place) (b : Base) (h : Heap) (s : State Bodied) (k : ℕ) (held : Content) (c : Context) (name : Stand) (t : Thunk) (x : HasEntry b name c.level b.current (fixed (machine.a_thunk t))) → Wanted b mode u → does set program at (instr.UseFormal mode (links c name) name.position) (mach b h s k held) ≡ Rattle.stack_code.specs.Table.use_thunk set program.marks (k + 1) u t (mach b h s k held)
   formal_row mode u at b h s k held c name t x wanted =
       ap (λ r. doing.after r (λ purpose. doing.◌>>=◌ (doing.◌>>=◌ (doing.content_out (links c name) name.position) doing.thunk_in) (λ t. doing.◌>>=◌ doing.here (λ n. Rattle.stack_code.specs.Table.use_thunk set program.marks (n + 1) purpose t)))) (wanted_is mode u b h s k held wanted)
@@ -118,4 +121,10 @@ module _ (set : Setting) (program : Code) where
     named_follows x = record {
       by = λ u at w b h s c e mode k held code wanted l ft. ends_at set program b s.active _ _ w.targets h s (mach b h s k held) (named set later u at (find e x) s) (ap (λ κ. k + named_size κ) (sym (kind_found c.names x)))
           (named_by_kind u at w b h s c e mode k held (find e x) (stand_at c.names x) (found program.instructions w b s.arrays c.level b.current e c.names x l.shows) code wanted l ft);
+    }
+
+    -- a standard variable
+    pub standard_follows : (n : ℕ) → n < 2 → PhraseFollows set program later (Variable n)
+    standard_follows n q = record {
+      by = λ u at w b h s c e mode k held code wanted l ft. variable_follows set program u b h s k n held (mach b h s k held) (record { at = at; does = instr.Standard mode n }) w.targets w (in_field n) code.0 (standard_row mode u at b h s k n held wanted) l.agrees (l.agrees.settled.standard n q);
     }

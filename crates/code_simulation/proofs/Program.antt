@@ -1,5 +1,5 @@
 -- Whole programs.
-use Rattle.std.proofs.Common.{◌≡◌, ℕ, zero, suc, ◌+◌, ◌⊎◌, inl, inr, List, [], ◌∷◌, length, Option, Some, None, refl, sym, ap, ◌∙◌, subst, arith}
+use Rattle.std.proofs.Common.{◌≡◌, ℕ, zero, suc, ◌+◌, ◌<◌, ◌⊎◌, inl, inr, List, [], ◌∷◌, length, Option, Some, None, refl, sym, ap, ◌∙◌, subst, arith}
 use Rattle.std.specs.Prelude.{slice_get}
 use Rattle.program_meaning.specs.Phrases.{Phrase}
 use Rattle.program_meaning.specs.State as state
@@ -15,7 +15,7 @@ use Rattle.stack_code.specs.Run as table
 use Rattle.stack_code.specs.Run.{Stepped, further, over, normal, stopped, row, rows, RunsTo}
 use Rattle.phrase_code.specs.Sizes.{size}
 use Rattle.phrase_code.specs.Coding.{program_code, outermost, code, known, one, ◌▸◌}
-use Rattle.code_simulation.specs.Relation.{HasAt, Base, Heap, mach, World, Settled, Agrees, At}
+use Rattle.code_simulation.specs.Relation.{HasAt, Base, Heap, mach, World, Stands, Settled, Agrees, At}
 use Rattle.code_simulation.specs.Following.{Comes, already, by_row, Seen, Follows, Gives}
 use Rattle.code_simulation.specs.Statement.{Counts, TableDoes, CodeDoesWhatTheProgramDoes}
 use Rattle.code_simulation.proofs.Stacks.{none_is_some, past_top}
@@ -47,20 +47,28 @@ module _ (set : Setting) (program : Code) where
 abbrev empty_base : Base
 empty_base = record { reserved = []; slots = []; entries = []; frames = []; current = None }
 
+-- only the standard variables
 abbrev empty_heap : Heap
-empty_heap = record { records = []; fields = [] }
+empty_heap = record { records = []; fields = 1 ∷ 0 ∷ [] }
 
 abbrev empty_world : ℕ → World
 empty_world n = record { procedures = []; targets = []; marks = n }
 
-nothing_stands : (k : ℕ) (x : machine.Where) → Rattle.code_simulation.specs.Relation.Stands empty_base empty_heap k x → ⊥
-nothing_stands k (machine.in_cell c) e = none_is_some (sym (past_top [] c (omega arith)) ∙ e)
-nothing_stands k (machine.in_field f) e = none_is_some (sym (past_top [] f (omega arith)) ∙ e)
+stands_first : (k : ℕ) (x : machine.Where) → Stands empty_base empty_heap k x → (k < 2) × (x ≡ machine.in_field k)
+stands_first k (machine.in_cell c) e = absurd (none_is_some (sym (past_top [] c (omega arith)) ∙ e))
+stands_first k (machine.in_field zero) e = let q : 0 ≡ k = cc in (omega (arith, q), ap machine.in_field q)
+stands_first k (machine.in_field (suc zero)) e = let q : 1 ≡ k = cc in (omega (arith, q), ap machine.in_field q)
+stands_first k (machine.in_field (suc (suc f))) e = absurd (none_is_some (sym (past_top (1 ∷ 0 ∷ []) (suc (suc f)) (omega arith)) ∙ e))
+
+standard_first : (k : ℕ) → k < 2 → on_top_of empty_heap.fields k ≡ Some k
+standard_first zero l = refl
+standard_first (suc zero) l = refl
+standard_first (suc (suc k)) l = absurd (omega (arith, l))
 
 begins : (program : List Coded) (n : ℕ) → At program (empty_world n) empty_base empty_heap initial outermost empty
 begins program n = record {
   agrees = record {
-    settled = record { apart = λ k x y p q. absurd (nothing_stands k x p); within = λ k x p. absurd (nothing_stands k x p); has = λ r info e. absurd (none_is_some e); kept = λ k i. absurd i; count = refl; as_many = refl };
+    settled = record { apart = λ k x y p q. (stands_first k x p).1 ∙ sym (stands_first k y q).1; within = λ k x p. (stands_first k x p).0; has = λ r info e. absurd (none_is_some e); kept = λ k i. absurd i; count = refl; as_many = refl; standard = standard_first };
     cells = refl;
     listed = tt;
     lives = λ p i. absurd i;

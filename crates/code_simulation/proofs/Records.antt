@@ -1,6 +1,7 @@
 -- Record designators.
 use Rattle.std.proofs.Common.{◌≡◌, ℕ, zero, suc, ◌+◌, ◌-◌, ◌<◌, ◌≤◌, ◌⊎◌, inl, inr, List, [], ◌∷◌, ◌++◌, length, map, Option, Some, None, refl, sym, ap, ◌∙◌, subst, arith, length-append, append_assoc, append-nil}
 use Rattle.std.specs.Prelude.{slice_get, nat_lt, nat_le, ◌&&◌, replicate, Bool, true, false}
+use Rattle.std.proofs.lemmas.Bool.{le-leb, leb-true, leb-false, lt-leb}
 use Rattle.value_ops.specs.declared.places.Place.{Place}
 use Rattle.value_ops.specs.declared.faults.Limit.TheVariants as limit
 use Rattle.value_ops.specs.declared.values.Value.{Value}
@@ -96,6 +97,17 @@ got_last (x ∷ xs) y z (suc r) e = by (got_last xs y z r e)
     by (inl q) = inl q
     by (inr q) = inr (ap suc q.0, q.1)
 
+-- the standard variables are there besides
+two_more : (a b : ℕ) → nat_le (2 + a) (2 + b) ≡ nat_le a b
+two_more a b = by (nat_le a b) refl
+  where
+    by : (t : Bool) → nat_le a b ≡ t → nat_le (2 + a) (2 + b) ≡ nat_le a b
+    by true e = let l = leb-true a b e in le-leb (2 + a) (2 + b) (omega (arith, l)) ∙ sym e
+    by false e = let l = leb-false a b e in lt-leb (2 + a) (2 + b) (omega (arith, l)) ∙ sym e
+
+behind_two : (a b : ℕ) → 2 + a + b ≡ 2 + (a + b)
+behind_two a b = omega arith
+
 -- a heap with a record more
 abbrev with_record : Name → List (Option Value) → ℕ → Heap → Heap
 with_record class vs n h = record { records = record { class = class; first = length h.fields; count = length vs } ∷ h.records; fields = field_numbers n vs h.fields }
@@ -111,6 +123,7 @@ settled_record class vs b h s a = record {
   has = λ r info e. found r info (got_last s.records _ info r e);
   count = let c = a.count in let l = length-append s.records (record { class = class; first = length s.memory; count = length vs } ∷ []) in omega (arith, c, l);
   as_many = let m = a.as_many in let l = numbers_length (length s.memory) vs h.fields in omega (arith, m, l);
+  standard = λ k l. numbers_old (length s.memory) vs h.fields k k (a.standard k l);
 }
   where
     h' : Heap
@@ -188,7 +201,9 @@ module _ (set : Setting) (program : Code) where
       nf = length_map (field_of s.memory) h.fields
 
       tests : (doing.make_record class vs >> go_on) m0 ≡ row_by (nat_lt (length s.records) most_records && nat_le (s.fields + length vs) most_fields)
-      tests = ap (λ n. row_by (nat_lt n most_records && nat_le (length fs + length vs) most_fields)) st.count ∙ ap (λ n. row_by (nat_lt (length s.records) most_records && nat_le (n + length vs) most_fields)) (nf ∙ st.as_many)
+      tests = ap (λ n. row_by (nat_lt n most_records && nat_le (length fs + length vs) (2 + most_fields))) st.count ∙ ap (λ n. row_by (nat_lt (length s.records) most_records && nat_le (n + length vs) (2 + most_fields))) (nf ∙ st.as_many)
+          ∙ ap (λ n. row_by (nat_lt (length s.records) most_records && nat_le n (2 + most_fields))) (behind_two s.fields (length vs))
+          ∙ ap (λ t. row_by (nat_lt (length s.records) most_records && t)) (two_more (s.fields + length vs) most_fields)
 
       h' : Heap
       h' = with_record class vs (length s.memory) h

@@ -39,6 +39,7 @@ names_and_marks (machine.a_turn st back ∷ entries) = let h = names_and_marks e
 names_and_marks (machine.a_call head site ∷ entries) = let h = names_and_marks entries in omega (arith, h)
 names_and_marks (machine.an_actual head ∷ entries) = let h = names_and_marks entries in omega (arith, h)
 names_and_marks (machine.an_aside ∷ entries) = let h = names_and_marks entries in omega (arith, h)
+names_and_marks (machine.some_widths ws ∷ entries) = let h = names_and_marks entries in omega (arith, h)
 
 -- ---- texts that count in the depth
 
@@ -71,6 +72,7 @@ texts_listed program b arrays (machine.a_turn st back ∷ entries) names (state.
 texts_listed program b arrays (machine.a_call head site ∷ entries) names (state.in_call name q xs ∷ active) x = ap suc (texts_listed program b arrays entries [] active x.3)
 texts_listed program b arrays (machine.an_actual head ∷ entries) names (state.in_actual first ∷ active) x = ap suc (texts_listed program b arrays entries [] active x.2)
 texts_listed program b arrays (machine.an_aside ∷ entries) names active x = texts_listed program b arrays entries names active x
+texts_listed program b arrays (machine.some_widths ws ∷ entries) names active x = texts_listed program b arrays entries names active x
 texts_listed program b arrays entries names active x = absurd x
 
 -- what is under way no more counts no more

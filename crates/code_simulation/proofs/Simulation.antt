@@ -9,7 +9,7 @@ use Rattle.stack_code.specs.Code.{Code}
 use Rattle.code_simulation.specs.Written.{IsWritten, EachWritten, TargetsWritten, ItemsWritten, BoundsWritten, DeclsWritten}
 use Rattle.code_simulation.specs.Following.{PhraseFollows, LaterFollows}
 use Rattle.code_simulation.proofs.Operators.{empty_follows, constant_follows, unary_follows, binary_follows, relation_follows}
-use Rattle.code_simulation.proofs.Names.{named_follows}
+use Rattle.code_simulation.proofs.Names.{named_follows, standard_follows}
 use Rattle.code_simulation.proofs.Choices.{Each, each_none, each_and, if_then_follows, case_follows}
 use Rattle.code_simulation.proofs.Statements.{EachDoes, does_none, does_and, TargetsDo, targets_none, targets_and, assign_follows, assert_follows, control_follows, write_follows, read_follows, read_card_follows}
 use Rattle.code_simulation.proofs.Loops.{while_follows, while_job_follows}
@@ -35,7 +35,7 @@ module _ (set : Setting) (program : Code) (later : Job → M Bodied state.Given)
     phrase_follows Empty w = empty_follows set program later
     phrase_follows (Constant v) w = constant_follows set program later v
     phrase_follows (Named x) w = named_follows set program later hl x
-    phrase_follows (Variable k) w = absurd w
+    phrase_follows (Variable k) w = standard_follows set program later hl k w
     phrase_follows (Array k given) w = absurd w
     phrase_follows (Label l) w = absurd w
     phrase_follows (Procedure k) w = absurd w
@@ -62,7 +62,7 @@ module _ (set : Setting) (program : Code) (later : Job → M Bodied state.Given)
     phrase_follows (Goto st (Named x)) w = goto_follows set program later st x
     phrase_follows (Goto st a) w = absurd w
     phrase_follows (Assert st a) w = assert_follows set program later st a (phrase_follows a w)
-    phrase_follows (Write st first values) w = write_follows set program later st first values (each_value values w)
+    phrase_follows (Write st first roles values) w = write_follows set program later st first roles values (each_value values w)
     phrase_follows (Read st next targets) w = read_follows set program later st next targets (each_target targets w)
     phrase_follows (ReadCard st targets) w = read_card_follows set program later st targets (each_target targets w)
     phrase_follows (IoControl st a) w = control_follows set program later st a (phrase_follows a w)

@@ -191,7 +191,7 @@ module _ (set : Setting) (later : Job → M Bodied state.Given) (hl : (job : Job
     clean (ForList st x values body) w e s = clean_after (state.begin set (Some st) s) _ (λ z s1. clean_after (Rattle.program_meaning.specs.Environments.go_list set later values st x body e s1) _ (λ z s2. tt))
     clean (Goto st a) w e s = clean_after (state.begin set (Some st) s) _ (λ z s1. clean_went st (head e a) s1)
     clean (Assert st c) w e s = clean_after (state.begin set (Some st) s) _ (λ z s1. clean_after (state.truth_of st (go set later c for_value st e) s1) _ (λ t s2. clean_test t _ _ tt tt))
-    clean (Write st first values) w e s = clean_after (state.begin set (Some st) s) _ (λ z s1. clean_after (Rattle.program_meaning.specs.Environments.go_writes set later values st first e s1) _ (λ z s2. tt))
+    clean (Write st first roles values) w e s = clean_after (state.begin set (Some st) s) _ (λ z s1. clean_after (Rattle.program_meaning.specs.Environments.go_writes set later values st first Rattle.program_meaning.specs.Widths.none_set roles e s1) _ (λ z s2. tt))
     clean (Read st next targets) w e s = clean_after (state.begin set (Some st) s) _ (λ z s1. clean_after (Rattle.program_meaning.specs.Environments.go_reads set later targets st next e s1) _ (λ z s2. tt))
     clean (ReadCard st targets) w e s = clean_after (state.begin set (Some st) s) _ (λ z s1. clean_after (Rattle.program_meaning.specs.Environments.go_cards set later targets st e s1) _ (λ z s2. tt))
     clean (IoControl st a) w e s = clean_after (state.begin set (Some st) s) _ (λ z s1. clean_after (state.integer_of st (go set later a for_value st e) s1) _ (λ i s2. clean_after (Rattle.program_meaning.specs.Copying.io_control i s2) _ (λ z s3. tt)))

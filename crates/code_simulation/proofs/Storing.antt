@@ -1,21 +1,24 @@
 -- Rows that change a variable, what is printed, and how far the data are read.
-use Rattle.std.proofs.Common.{◌≡◌, ◌≢◌, ℕ, inl, ℤ, pos, negsuc, List, [], ◌∷◌, ◌++◌, length, take, map, Option, Some, None, refl, sym, ap, ◌∙◌, subst, arith}
+use Rattle.std.proofs.Common.{◌≡◌, ◌≢◌, ℕ, ◌<◌, inl, ℤ, pos, negsuc, List, [], ◌∷◌, ◌++◌, length, take, map, Option, Some, None, refl, sym, ap, ◌∙◌, subst, arith}
 use Rattle.std.specs.Prelude.{slice_get, slice_set, nat_le, nat_eq, Bool, true, false, Result, Ok, Err}
 use Rattle.value_ops.specs.declared.places.Place.{Place}
 use Rattle.value_ops.specs.declared.faults.Fault.{Fault}
+use Rattle.value_ops.specs.declared.faults.Fault.TheVariants as fault
 use Rattle.value_ops.specs.declared.faults.Limit.TheVariants as limit
 use Rattle.value_ops.specs.declared.values.Value.{Value}
 use Rattle.value_ops.specs.declared.values.Value.TheVariants as value
 use Rattle.value_ops.specs.declared.values.SimpleType.{SimpleType}
 use Rattle.value_ops.specs.Strings.{with_part}
 use Rattle.short_text.specs.Blanks.{blanks}
+use Rattle.algolw_tree.specs.declared.standard.Width.{Width}
+use Rattle.algolw_tree.specs.declared.standard.Width.TheVariants.{Columns, Blanks}
 use Rattle.algolw_typing.specs.Types.{ValueType}
 use Rattle.output_editing.specs.Layout.{Piece, Break, lay}
-use Rattle.output_editing.specs.Written.{written_first, written_on}
 use Rattle.input_editing.specs.Columns.{card_end, card_read, read_from}
 use Rattle.input_editing.specs.Scanning.{scanned}
 use Rattle.program_meaning.specs.State as state
 use Rattle.program_meaning.specs.State.{State, Setting, by_fault, by_limit, wrong, unfinished, Outcome, on, jump, stop, M, after}
+use Rattle.program_meaning.specs.Widths.{WidthsSet, variable_of, width_now, may_be_placed, widths_of, pieces_of, value_placed, value_written}
 use Rattle.program_meaning.specs.Copying as copying
 use Rattle.program_meaning.specs.Environments.{Bodied}
 use Rattle.stack_code.specs.Code.{Code, Coded}
@@ -29,7 +32,7 @@ use Rattle.code_simulation.specs.Following.{Follows}
 use Rattle.code_simulation.proofs.Stacks.{top_map, map_same, map_replaced, get_set_same, get_set_other, length_set}
 use Rattle.code_simulation.proofs.Values.{fault_here, limit_here}
 use Rattle.code_simulation.proofs.Counting.{follows_since, follows_assoc}
-use Rattle.code_simulation.proofs.Making.{Alike, alike_on, alike_fault, alike_wrong, made_alike}
+use Rattle.code_simulation.proofs.Making.{Alike, alike_on, alike_fault, alike_wrong, alike_after, look_alike, made_alike}
 
 -- a state with other variables
 abbrev pub with_memory : List (Option Value) → State Bodied → State Bodied
@@ -93,6 +96,7 @@ settled_put b h memory records fields n x v a e = record {
   has = a.has;
   count = a.count;
   as_many = a.as_many;
+  standard = a.standard;
 }
 
 -- ---- strings
@@ -114,6 +118,23 @@ characters_alike b h s k n i held w (in_field f) st = subst (λ r. Alike w s (ma
     by None = alike_wrong s
     by (Some None) = alike_on (blanks i)
     by (Some (Some v)) = string_alike w s (mach b h s k held) v
+
+-- ---- widths
+
+integer_alike : (w : Place) (s : State Bodied) (m : Machine) (v : Value) → Alike w s m (state.integer_in w v s) (doing.integer_of v m)
+integer_alike w s m (value.Integer n) = alike_on n
+integer_alike w s m _ = alike_wrong s
+
+pub below_two : (width : Width) → variable_of width < 2
+below_two Columns = omega arith
+below_two Blanks = omega arith
+
+-- a width that is set, or the standard variable's value
+width_alike : (set : Setting) (program : Code) (w : Place) (b : Base) (h : Heap) (s : State Bodied) (k : ℕ) (held : Content) (width : Width) (o : Option ℤ) → Settled b h s.memory s.records s.fields → Alike w s (mach b h s k held) (width_now w width o s) (doing.width_now width o (mach b h s k held))
+width_alike set program w b h s k held width (Some n) st = alike_on n
+width_alike set program w b h s k held width None st =
+    alike_after w s (mach b h s k held) (state.look w (variable_of width) s) (doing.value_at (in_field (variable_of width)) (mach b h s k held)) (state.integer_in w) doing.integer_of
+    (look_alike set program b h s k (variable_of width) held w (in_field (variable_of width)) (st.standard (variable_of width) (below_two width))) (λ v. integer_alike w s (mach b h s k held) v)
 
 module _ (set : Setting) (program : Code) where
   -- what looks only, and then a row that goes on
@@ -183,10 +204,23 @@ module _ (set : Setting) (program : Code) where
       by ih true q = ih (d ∙ row true q)
       by ih false q = limit_here set program R ts h s1 m c limit.Lines b k held e (d ∙ row false q) l st
 
-  pub written_then : {A : Type 0} (R : A → Heap → State Bodied → Machine → Type 0) (ts : List Target) (b : Base) (h : Heap) (s : State Bodied) (k : ℕ) (held : Content) (m : Machine) (c : Coded) (K : Row (Unit {0})) (f : Unit {0} → M Bodied A) (first : Bool) (v : Value) → slice_get program.instructions m.pc ≡ Some c → does set program c.at c.does m ≡ (doing.value_written set first v >> K) (mach b h s k held) →
-      Listed program.instructions b s.arrays b.entries [] s.active → Settled b h s.memory s.records s.fields → ((l : List Piece) → does set program c.at c.does m ≡ K (mach b h (with_pieces l s) k held) → Follows set program R ts h (with_pieces l s) m (f tt (with_pieces l s))) → Follows set program R ts h s m (after (copying.value_written set c.at first v s) f)
-  written_then R ts b h s k held m c K f true v e d l st g = pieces_then R ts b h s k held m c K f (written_first v) e d l st g
-  written_then R ts b h s k held m c K f false v e d l st g = pieces_then R ts b h s k held m c K f (written_on v) e d l st g
+  -- a value is placed by widths that are looked for
+  pub written_then : {A : Type 0} (R : A → Heap → State Bodied → Machine → Type 0) (ts : List Target) (b : Base) (h : Heap) (s : State Bodied) (k : ℕ) (held : Content) (m : Machine) (c : Coded) (K : Row (Unit {0})) (f : Unit {0} → M Bodied A) (first : Bool) (ws : WidthsSet) (v : Value) → slice_get program.instructions m.pc ≡ Some c →
+      does set program c.at c.does m ≡ (doing.value_written set first v ws >> K) (mach b h s k held) → Listed program.instructions b s.arrays b.entries [] s.active → Settled b h s.memory s.records s.fields → ((l : List Piece) → does set program c.at c.does m ≡ K (mach b h (with_pieces l s) k held) → Follows set program R ts h (with_pieces l s) m (f tt (with_pieces l s))) →
+      Follows set program R ts h s m (after (value_written set c.at first ws v s) f)
+  written_then R ts b h s k held m c K f first ws v e d l st g =
+      follows_assoc set program R ts h s m (width_now c.at Columns ws.columns s) (λ columns. state.◌>>=◌ (width_now c.at Blanks ws.blanks) (λ blanks. value_placed set c.at first v columns blanks)) f
+      (alike_then R ts b h s k held m c (λ columns. (doing.width_now Blanks ws.blanks >>= λ blanks. doing.value_placed set first v columns blanks) >> K) (λ columns s1. after (after (width_now c.at Blanks ws.blanks s1) (λ blanks. value_placed set c.at first v columns blanks)) f) (width_now c.at Columns ws.columns s) (doing.width_now Columns ws.columns (mach b h s k held)) e
+      (d ∙ shape (doing.width_now Columns ws.columns (mach b h s k held)) (λ columns. doing.width_now Blanks ws.blanks >>= λ blanks. doing.value_placed set first v columns blanks) (λ z. K)) l st (width_alike set program c.at b h s k held Columns ws.columns st)
+      (λ columns d1. follows_assoc set program R ts h s m (width_now c.at Blanks ws.blanks s) (λ blanks. value_placed set c.at first v columns blanks) f
+      (alike_then R ts b h s k held m c (λ blanks. doing.value_placed set first v columns blanks >> K) (λ blanks s1. after (value_placed set c.at first v columns blanks s1) f) (width_now c.at Blanks ws.blanks s) (doing.width_now Blanks ws.blanks (mach b h s k held)) e
+      (d1 ∙ shape (doing.width_now Blanks ws.blanks (mach b h s k held)) (λ blanks. doing.value_placed set first v columns blanks) (λ z. K)) l st (width_alike set program c.at b h s k held Blanks ws.blanks st)
+      (λ blanks d2. by columns blanks (may_be_placed v columns blanks) d2))))
+    where
+      by : (columns blanks : ℤ) (t : Bool) → does set program c.at c.does m ≡ (doing.test t (doing.put_pieces set (pieces_of first v (widths_of columns blanks))) (doing.fault_now fault.WidthOutOfRange) >> K) (mach b h s k held) →
+          Follows set program R ts h s m (after (state.test t (state.put_pieces set c.at (pieces_of first v (widths_of columns blanks))) (state.fault_at fault.WidthOutOfRange c.at) s) f)
+      by columns blanks true d2 = pieces_then R ts b h s k held m c K f (pieces_of first v (widths_of columns blanks)) e d2 l st g
+      by columns blanks false d2 = fault_here set program R ts h s m c fault.WidthOutOfRange b k held e d2 l st
 
   answer_then : {A : Type 0} (R : A → Heap → State Bodied → Machine → Type 0) (ts : List Target) (b : Base) (h : Heap) (s : State Bodied) (k : ℕ) (held : Content) (m : Machine) (c : Coded) (K : Value → Row (Unit {0})) (f : Value → M Bodied A) (r : Result (Value × ℕ) Fault) → slice_get program.instructions m.pc ≡ Some c → does set program c.at c.does m ≡ doing.after (doing.scan_answer r (mach b h s k held)) K →
       Listed program.instructions b s.arrays b.entries [] s.active → Settled b h s.memory s.records s.fields → ((v : Value) (n : ℕ) → does set program c.at c.does m ≡ K v (mach b h (with_read n s) k held) → Follows set program R ts h (with_read n s) m (f v (with_read n s))) → Follows set program R ts h s m (after (state.scan_answer c.at r s) f)

@@ -46,6 +46,7 @@ settled_in b b' h memory records fields q o a = record {
   has = a.has;
   count = a.count;
   as_many = a.as_many;
+  standard = a.standard;
 }
 
 pub spot_in_same : (b b' : Base) (h : Heap) (k : state.Spot) (x : machine.Spot) → b'.slots ≡ b.slots → HeldSpot b' h k x → HeldSpot b h k x

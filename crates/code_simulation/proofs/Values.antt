@@ -42,6 +42,7 @@ settled_below x b h memory records fields a = record {
   has = a.has;
   count = a.count;
   as_many = a.as_many;
+  standard = a.standard;
 }
   where
     up : (k : ℕ) (y : machine.Where) → Rattle.code_simulation.specs.Relation.Stands b h k y → Rattle.code_simulation.specs.Relation.Stands (pushed x b) h k y

@@ -46,7 +46,7 @@ pub record Base : Type 0 where
   pub frames : List Frame
   pub current : Option ℕ
 
--- what stands in records: the machine's records, and the variable of each field
+-- what stands in records: the machine's records, and the variable of each field, below those the standard variables
 pub record Heap : Type 0 where
   pub records : List RecordMade
   pub fields : List ℕ
@@ -262,6 +262,7 @@ Listed program b arrays (machine.a_turn st back ∷ entries) names (state.in_tur
 Listed program b arrays (machine.a_call head site ∷ entries) names (state.in_call name q xs ∷ active) = IsHeadOf program head name × (site ≡ q) × (names ≡ xs) × Listed program b arrays entries [] active
 Listed program b arrays (machine.an_actual head ∷ entries) names (state.in_actual first ∷ active) = IsTextOf program head first × (names ≡ []) × Listed program b arrays entries [] active
 Listed program b arrays (machine.an_aside ∷ entries) names active = Listed program b arrays entries names active
+Listed program b arrays (machine.some_widths ws ∷ entries) names active = Listed program b arrays entries names active
 Listed program b arrays entries names active = ⊥
 
 -- ---- the relation
@@ -274,14 +275,15 @@ pub record HasRecord (h : Heap) (r : ℕ) (info : RecordInfo) : Type 0 where
   pub count : there.count ≡ info.count
   pub fields : (i : ℕ) → i < info.count → on_top_of h.fields (there.first + i) ≡ Some (info.first + i)
 
--- each variable stands in one place at most; records are the same
+-- each variable stands in one place at most, the two standard ones in the lowest fields; records are the same
 pub record Settled (b : Base) (h : Heap) (memory : List (Option Value)) (records : List RecordInfo) (fields : ℕ) : Type 0 where
   pub apart : (k : ℕ) (x y : Where) → Stands b h k x → Stands b h k y → x ≡ y
   pub within : (k : ℕ) (x : Where) → Stands b h k x → k < length memory
   pub has : (r : ℕ) (info : RecordInfo) → slice_get records r ≡ Some info → HasRecord h r info
   pub kept : (k : ℕ) → Has k b.reserved → (slice_get memory k ≡ Some None) × ((x : Where) → Stands b h k x → ⊥)
   pub count : length h.records ≡ length records
-  pub as_many : length h.fields ≡ fields
+  pub as_many : length h.fields ≡ 2 + fields
+  pub standard : (k : ℕ) → k < 2 → on_top_of h.fields k ≡ Some k
 
 -- what a jump finds below: the stacks of the label's block
 pub record Above (program : List Coded) (b : Base) (s : State Bodied) (t : Target) : Type 0 where

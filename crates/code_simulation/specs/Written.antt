@@ -1,4 +1,5 @@
--- Phrases that a program is written with: none that only copying makes.
+-- Phrases that a program is written with: none that only copying makes. The standard variables have no names to copy for.
+use Rattle.std.specs.Prelude.{◌<◌}
 use Rattle.program_meaning.specs.Phrases.{Phrase, Empty, Constant, Named, Variable, Array, Label, Procedure, Copied, Unary, Binary, Relation, IsClass, Element, Field, Part, Record, RecordAlone, IfThen, Case, Block, Call, Assign, WhileDo, ForStep, ForList, Goto, Assert, Write, Read, ReadCard, IoControl, Phrases, no_phrases, phrase_and, Targets, no_targets, target_and, Subscripts, no_subscripts, star_and, subscript_and, Actuals, no_actuals, actual_and, Actual, Given, Alone, Subarray, Items, no_items, item_and, Bounds, no_bounds, bound_and, Decls, no_decls, variables_and, arrays_and, procedure_and}
 
 -- a name
@@ -11,7 +12,7 @@ abbrev mutual
   IsWritten Empty = Unit {0}
   IsWritten (Constant v) = Unit {0}
   IsWritten (Named x) = Unit {0}
-  IsWritten (Variable k) = ⊥
+  IsWritten (Variable k) = k < 2
   IsWritten (Array k given) = ⊥
   IsWritten (Label l) = ⊥
   IsWritten (Procedure k) = ⊥
@@ -35,7 +36,7 @@ abbrev mutual
   IsWritten (ForList st x values body) = EachWritten values × IsWritten body
   IsWritten (Goto st a) = IsName a
   IsWritten (Assert st a) = IsWritten a
-  IsWritten (Write st first values) = EachWritten values
+  IsWritten (Write st first roles values) = EachWritten values
   IsWritten (Read st next targets) = TargetsWritten targets
   IsWritten (ReadCard st targets) = TargetsWritten targets
   IsWritten (IoControl st a) = IsWritten a

@@ -115,7 +115,7 @@ mutual
       omega (arith, p, s)
   size_same (Goto st a) f k l h e = ap goto_size (head_same a f k l h (cc e))
   size_same (Assert st a) f k l h e = let s = size_same a f k l h (cc e) in omega (arith, s)
-  size_same (Write st first values) f k l h e = let s = writes_same values f k l h (cc e) in omega (arith, s)
+  size_same (Write st first roles values) f k l h e = let s = writes_same values f k l h (cc e) in omega (arith, s)
   size_same (Read st next targets) f k l h e = let s = targets_same targets f k l h (cc e) in omega (arith, s)
   size_same (ReadCard st targets) f k l h e = let s = targets_same targets f k l h (cc e) in omega (arith, s)
   size_same (IoControl st a) f k l h e = let s = size_same a f k l h (cc e) in omega (arith, s)

@@ -43,7 +43,7 @@ mutual
   suits_same (ForList st x values body) f k l h e s = (all_same values f k l h (cc e) s.0, suits_same body (kept (x.place ∷ []) f) (control_known x k) (control_known x l) (control_more x f k l h) (cc e) s.1)
   suits_same (Goto st a) f k l h e s = tt
   suits_same (Assert st a) f k l h e s = suits_same a f k l h (cc e) s
-  suits_same (Write st first values) f k l h e s = all_same values f k l h (cc e) s
+  suits_same (Write st first roles values) f k l h e s = all_same values f k l h (cc e) s
   suits_same (Read st next targets) f k l h e s = targets_same targets f k l h (cc e) s
   suits_same (ReadCard st targets) f k l h e s = targets_same targets f k l h (cc e) s
   suits_same (IoControl st a) f k l h e s = suits_same a f k l h (cc e) s

@@ -4,7 +4,7 @@ use Rattle.std.specs.Prelude.{Option, Some, None, Bool, true, false, ◌||◌}
 use Rattle.value_ops.specs.declared.places.Place.{Place}
 use Rattle.algolw_typing.specs.Types.{ValueType, Gives, Statement, Simple, is_place, has}
 use Rattle.algolw_typing.specs.Meanings.{FormalType, by_name, by_value, by_result, by_value_result, for_array, for_procedure}
-use Rattle.program_meaning.specs.Phrases.{Phrase, Empty, Constant, Named, Variable, Array, Label, Procedure, Copied, Unary, Binary, Relation, IsClass, Element, Field, Part, Record, RecordAlone, IfThen, Case, Block, Call, Assign, WhileDo, ForStep, ForList, Goto, Assert, Write, Read, ReadCard, IoControl, Phrases, no_phrases, phrase_and, Targets, no_targets, target_and, Subscripts, no_subscripts, star_and, subscript_and, Actuals, no_actuals, actual_and, Actual, Given, Alone, Subarray, Items, no_items, item_and, Bounds, no_bounds, bound_and, Decls, no_decls, variables_and, arrays_and, procedure_and, Name, Formal, with, with_phrases, with_targets, with_subscripts, with_actuals, with_actual, with_items, with_bounds, with_decls, kept, places, formal_places, decl_places, label_places, block_places}
+use Rattle.program_meaning.specs.Phrases.{Phrase, Empty, Constant, Named, Variable, Array, Label, Procedure, Copied, Unary, Binary, Relation, IsClass, Element, Field, Part, Record, RecordAlone, IfThen, Case, Block, Call, Assign, WhileDo, ForStep, ForList, Goto, Assert, Write, Read, ReadCard, IoControl, Phrases, no_phrases, phrase_and, Targets, no_targets, target_and, Subscripts, no_subscripts, star_and, subscript_and, Actuals, no_actuals, actual_and, Actual, Given, Alone, Subarray, Items, no_items, item_and, Bounds, no_bounds, bound_and, Decls, no_decls, variables_and, arrays_and, procedure_and, Name, Formal, with, with_phrases, with_targets, with_subscripts, with_actuals, with_actual, with_items, with_bounds, with_decls, kept, places, formal_places, decl_places, label_places, block_places, Role, placed, sets}
 use Rattle.program_meaning.specs.State.{innermost}
 use Rattle.program_meaning.specs.Copying.{dimensions, free_of}
 use Rattle.stack_code.specs.Instr as instr
@@ -377,9 +377,9 @@ mutual
       let x = code_same a f n m h (cc e) level count st the_value (k + 1) in
       let r = joined (same (one st instr.Begin)) (joined x (same (one st instr.Assert))) in
       r
-  code_same (Write st first values) f n m h e level count w u k =
-      let x = writes_same values first f n m h (cc e) level count st (k + 1) in
-      let r = joined (same (one st instr.Begin)) (joined x (same (one st instr.Nothing))) in
+  code_same (Write st first roles values) f n m h e level count w u k =
+      let x = writes_same values first None roles f n m h (cc e) level count st (k + 1) in
+      let r = joined (same (one st instr.Begin)) x in
       r
   code_same (Read st next targets) f n m h e level count w u k =
       let x = reads_same targets next f n m h (cc e) level count st (k + 1) in
@@ -436,13 +436,31 @@ mutual
       let r = joined z (joined (same (one st (instr.ListTurn body x.text))) y) in
       r
 
-  writes_same : (as_ : Phrases) (first : Bool) (f : Place → Phrase) (n m : List Stand) → StandAlike f n m → with_phrases f as_ ≡ as_ → (level count : ℕ) (st : Place) (k : ℕ) → code_writes (of n level count) st first k as_ ≡ code_writes (of m level count) st first k as_
-  writes_same no_phrases first f n m h e level count st k = refl
-  writes_same (phrase_and a rest) first f n m h e level count st k =
+  writes_same : (as_ : Phrases) (first : Bool) (position : Option ℕ) (roles : List Role) (f : Place → Phrase) (n m : List Stand) → StandAlike f n m → with_phrases f as_ ≡ as_ → (level count : ℕ) (st : Place) (k : ℕ) → code_writes (of n level count) st first position k roles as_ ≡ code_writes (of m level count) st first position k roles as_
+  writes_same no_phrases first position roles f n m h e level count st k = refl
+  writes_same (phrase_and a rest) first position [] f n m h e level count st k =
       let s = size_same a f (map known_of n) (map known_of m) (known_alike f n m h) (cc e) in
       let x = code_same a f n m h (cc e) level count st the_value k in
-      let y = writes_same rest false f n m h (cc e) level count st (k + (size (map known_of n) a + 1)) ∙ ap (λ (i : ℕ). code_writes (of m level count) st false (k + (i + 1)) rest) s in
-      let r = joined x (joined (same (one st (instr.Write first))) y) in
+      let y = writes_same rest first position [] f n m h (cc e) level count st (k + (size (map known_of n) a + 1)) ∙ ap (λ (i : ℕ). code_writes (of m level count) st first position (k + (i + 1)) [] rest) s in
+      let r = joined x (joined (same (one st instr.Stuck)) y) in
+      r
+  writes_same (phrase_and a rest) first position (placed ∷ roles) f n m h e level count st k =
+      let s = size_same a f (map known_of n) (map known_of m) (known_alike f n m h) (cc e) in
+      let x = code_same a f n m h (cc e) level count st the_value k in
+      let y = writes_same rest false position roles f n m h (cc e) level count st (k + (size (map known_of n) a + 1)) ∙ ap (λ (i : ℕ). code_writes (of m level count) st false position (k + (i + 1)) roles rest) s in
+      let r = joined x (joined (same (one st (instr.Write first position))) y) in
+      r
+  writes_same (phrase_and a rest) first None (sets width ∷ roles) f n m h e level count st k =
+      let s = size_same a f (map known_of n) (map known_of m) (known_alike f n m h) (cc e) in
+      let x = code_same a f n m h (cc e) level count st the_value k in
+      let y = writes_same rest first (Some count) roles f n m h (cc e) level (count + 1) st (k + (size (map known_of n) a + 1)) ∙ ap (λ (i : ℕ). code_writes (of m level (count + 1)) st first (Some count) (k + (i + 1)) roles rest) s in
+      let r = joined x (joined (same (one st (instr.SetWidth width None))) y) in
+      r
+  writes_same (phrase_and a rest) first (Some p) (sets width ∷ roles) f n m h e level count st k =
+      let s = size_same a f (map known_of n) (map known_of m) (known_alike f n m h) (cc e) in
+      let x = code_same a f n m h (cc e) level count st the_value k in
+      let y = writes_same rest first (Some p) roles f n m h (cc e) level count st (k + (size (map known_of n) a + 1)) ∙ ap (λ (i : ℕ). code_writes (of m level count) st first (Some p) (k + (i + 1)) roles rest) s in
+      let r = joined x (joined (same (one st (instr.SetWidth width (Some p)))) y) in
       r
 
   reads_same : (targets : Targets) (next : Bool) (f : Place → Phrase) (n m : List Stand) → StandAlike f n m → with_targets f targets ≡ targets → (level count : ℕ) (st : Place) (k : ℕ) → code_reads (of n level count) st next k targets ≡ code_reads (of m level count) st next k targets

@@ -7,11 +7,11 @@ use Rattle.algolw_typing.specs.Names.{Entry, declared}
 use Rattle.algolw_typing.specs.Types.{ValueType, Gives, Statement, has}
 use Rattle.algolw_typing.specs.Verdicts.{Verdict, Good, type_of, fault_of}
 use Rattle.algolw_typing.specs.Meanings as typing
-use Rattle.algolw_typing.specs.Meanings.{FormalType, Part, a_star, a_phrase, as_array, as_procedure, with_formals, not_read, typeless}
+use Rattle.algolw_typing.specs.Meanings.{FormalType, Part, a_star, a_phrase, a_setting, as_array, as_procedure, with_formals, not_read, typeless}
 use Rattle.algolw_typing.specs.Actuals.{Reading, as_phrases, Wanted, phrase_wanted, formal_wanted, none_wanted, any_wanted, wanted, behind, name_read, phrase_part, is_variable_name, is_subarray, subarray_row}
 use Rattle.algolw_typing.specs.Scopes.{Known, Scopes, result_faults, result_type, formal_faults, formal_scope, names_of_block, twice, bound_count, control_scope, class_fault}
 use Rattle.algolw_typing.specs.Typed as typed
-use Rattle.algolw_typing.specs.Typing.{Out, faults, gives, as_verdict, link_verdict, item_verdict, then_item, array_faults, procedure_verdict, typed_phrase, typed_phrases, typed_links, typed_items, typed_bounds, typed_decls, typed_decl, typed_formals, typed_parts, first_list, more_lists, list_verdict, part_verdict, use_alone, use_as_base, use_with_list, reading_of, meaning_of, given, read_as, phrase_given, name_given, subarray_given, list_given, parts_of_kind, uncounted, PartOut, listed, named_out}
+use Rattle.algolw_typing.specs.Typing.{Out, faults, gives, as_verdict, link_verdict, item_verdict, then_item, array_faults, procedure_verdict, typed_phrase, typed_phrases, typed_links, typed_items, typed_bounds, typed_decls, typed_decl, typed_formals, typed_parts, first_list, more_lists, list_verdict, part_verdict, use_alone, use_as_base, use_with_list, reading_of, meaning_of, given, is_setting, setting_given, read_as, phrase_given, name_given, subarray_given, list_given, parts_of_kind, uncounted, PartOut, listed, named_out}
 use Rattle.algolw_typing.specs.Known.{Knows, KnowsKind, KnowsNodes, KnowsLinks, KnowsLists, KnowsActuals, KnowsItems, KnowsBounds, KnowsDecls, KnowsDecl}
 use Rattle.algolw_typing.proofs.GoodScopes.{NoFaults, none_first, none_second, none_two, none_three, none_four}
 use Rattle.algolw_typing.proofs.GoodBlocks.{scope_of}
@@ -113,6 +113,7 @@ module _ (more : List Info) (names classes : List Place) (held : Held classes (i
   read_begun : (q : Part) (o : Out) → OutBegun o → UntypedBegun o → GivenBegun (read_as q o)
   read_begun (a_phrase v g) o k u = k
   read_begun typeless o k u = k
+  read_begun a_setting o k u = λ n h. u n (same_known o.node h)
   read_begun a_star o k u = λ n h. u n (same_known o.node h)
   read_begun (as_array t n) o k u = λ m h. u m (same_known o.node h)
   read_begun (as_procedure r) o k u = λ n h. u n (same_known o.node h)
@@ -176,6 +177,11 @@ module _ (more : List Info) (names classes : List Place) (held : Held classes (i
       let o = named_out p f (Some e) (first_list path p (Some e) (tree.list_and (tree.OfActuals q list) tree.no_lists)) in
       subst (λ m. GivenBegun (list_given p w m o)) (sym t.1) (list_begun p w t.0 e.is.reading e.place o t.2 k (λ elsewhere reads n h. (not_if (has standard_procedures e.place) None elsewhere, (b (none_first ps.inside [] n) h.1.0, tt))))
 
+  -- a setting isn't counted
+  setting_begun : (b : Bool) (o : Out) → OutBegun o → GivenBegun (elim b as (λ _. PartOut) [ true ↦ setting_given o | false ↦ phrase_given false o ])
+  setting_begun true o k = λ n h. uncounted_begun o.node (k n (uncounted_known o.node h))
+  setting_begun false o k = k
+
   -- the list of a name with one list
   abbrev ListBegun : Scopes → tree.Phrase → Type 0
   ListBegun path (tree.At p f (tree.Named x (tree.list_and (tree.OfActuals q list) tree.no_lists))) = PartsBegun path (reading_of (declared path x)) list
@@ -186,6 +192,7 @@ module _ (more : List Info) (names classes : List Place) (held : Held classes (i
   begun_given (tree.At p f (tree.Named x (tree.list_and (tree.OfActuals q list) tree.no_lists))) path c d r w k l = begun_listed path c d r w p f x q list (declared path x) refl l k
   begun_given (tree.At p f (tree.Named x (tree.list_and (tree.OfActuals q list) (tree.list_and m ms)))) path c d r w k l = k
   begun_given (tree.At p f (tree.Named x (tree.list_and (tree.OfPart q b n) ls))) path c d r w k l = k
+  begun_given (tree.At p f (tree.Assign x y)) path c d r w k l = setting_begun (is_setting path w x y) (typed_phrase path (tree.At p f (tree.Assign x y))) k
   begun_given (tree.At p f _) path c d r w k l = k
 
   -- ---- declared classes

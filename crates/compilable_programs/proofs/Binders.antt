@@ -11,9 +11,9 @@ use Rattle.algolw_typing.specs.Types.{ValueType, Gives}
 use Rattle.algolw_typing.specs.Meanings.{FormalType}
 use Rattle.algolw_typing.specs.Typed as typed
 use Rattle.program_meaning.specs.Phrases as phrase
-use Rattle.program_meaning.specs.Phrases.{Phrase, Phrases, no_phrases, phrase_and, Targets, no_targets, target_and, Subscripts, no_subscripts, star_and, subscript_and, Actuals, no_actuals, actual_and, Actual, Given, Alone, Subarray, Items, no_items, item_and, Bounds, no_bounds, bound_and, Decls, no_decls, variables_and, arrays_and, procedure_and, Name, Formal, places, formal_places, decl_places, label_places, block_places}
+use Rattle.program_meaning.specs.Phrases.{Phrase, Phrases, no_phrases, phrase_and, Targets, no_targets, target_and, Subscripts, no_subscripts, star_and, subscript_and, Actuals, no_actuals, actual_and, Actual, Given, Alone, Subarray, Items, no_items, item_and, Bounds, no_bounds, bound_and, Decls, no_decls, variables_and, arrays_and, procedure_and, Name, Formal, places, formal_places, decl_places, label_places, block_places, Role, placed, sets}
 use Rattle.program_meaning.specs.Translating as translating
-use Rattle.program_meaning.specs.Translating.{Context, Declared, unknown, formal_declared, type_of_formal, is_logical_given, decls_known, formals_known, formals_of, each_formal, names_at, places_of, with_known, linked, negated, signed, first_of, phrase_of, kind_of, perhaps_of, phrases_of, chain_of, named_of, parts_of, given_of, targets_of, subscripts_of, actuals_of, actual_of, items_of, bounds_of, decls_of, decl_of}
+use Rattle.program_meaning.specs.Translating.{Context, Declared, unknown, formal_declared, type_of_formal, is_logical_given, decls_known, formals_known, formals_of, each_formal, names_at, places_of, with_known, linked, negated, signed, first_of, phrase_of, kind_of, perhaps_of, phrases_of, chain_of, named_of, parts_of, given_of, targets_of, subscripts_of, actuals_of, actual_of, items_of, bounds_of, decls_of, decl_of, role_of, value_part, written_of}
 use Rattle.program_soundness.specs.Kinds as kinds
 use Rattle.program_soundness.specs.Kinds.{Meaning}
 use Rattle.program_soundness.specs.Tables.{Info, bound_count, each_info, group_info, fields_info, decl_info, decls_info, labels_info, formals_info, control_info, infos, kind_infos, perhaps_infos, nodes_infos, links_infos, lists_infos, actuals_infos, items_infos, bounds_infos, decls_infos, inner_infos}
@@ -49,7 +49,7 @@ module _ (m : Place → ℕ) where
     bound (phrase.ForStep st x a b c body) = bound a + (bound b + (bound c + (m x.place + bound body)))
     bound (phrase.ForList st x values body) = phrases_bound values + (m x.place + bound body)
     bound (phrase.Assert st c) = bound c
-    bound (phrase.Write st first values) = phrases_bound values
+    bound (phrase.Write st first roles values) = phrases_bound values
     bound (phrase.Read st next targets) = targets_bound targets
     bound (phrase.ReadCard st targets) = targets_bound targets
     bound (phrase.IoControl st a) = bound a
@@ -147,6 +147,10 @@ module _ (m : Place → ℕ) where
   first_bound no_phrases = omega arith
   first_bound (phrase_and a rest) = omega arith
 
+  value_bound : (role : Role) (a : Phrase) → bound (value_part role a) ≤ bound a
+  value_bound (sets width) (phrase.Assign st t a b) = omega arith
+  value_bound role a = omega arith
+
   group_more : (class : Place) (n : ℕ) (t : ValueType) (xs : List typed.Placed) (js : List Info) → infos_weight js ≤ infos_weight (group_info class n t xs js)
   group_more class n t [] js = omega arith
   group_more class n t (x ∷ xs) js = omega (arith, group_more class (n + 1) t xs js)
@@ -164,6 +168,7 @@ module _ (m : Place → ℕ) where
   standard_alone (standard.Write on) c p f st x = omega arith
   standard_alone standard.IoControl c p f st x = omega arith
   standard_alone standard.MaxInteger c p f st x = omega arith
+  standard_alone (standard.Variable width) c p f st x = omega arith
 
   standard_part : (s : Standard) (q : Place) (start : typed.Node) (n : ℤ) (rest : typed.Lists) (c : Context) (p f : Place) (st : Option Place) (x : Place)
       → bound (named_of c p f st x (translating.a_standard_name s) (typed.list_and (typed.OfPart q start n) rest)) ≤ infos_weight (lists_infos (typed.list_and (typed.OfPart q start n) rest))
@@ -173,16 +178,18 @@ module _ (m : Place → ℕ) where
   standard_part (standard.Write on) q start n rest c p f st x = omega arith
   standard_part standard.IoControl q start n rest c p f st x = omega arith
   standard_part standard.MaxInteger q start n rest c p f st x = omega arith
+  standard_part (standard.Variable width) q start n rest c p f st x = omega arith
 
-  standard_given : (s : Standard) (q : Place) (actuals : typed.Actuals) (rest : typed.Lists) (c : Context) (p f : Place) (st : Option Place) (x : Place) → phrases_bound (given_of c actuals) ≤ infos_weight (actuals_infos actuals) → targets_bound (targets_of c actuals) ≤ infos_weight (actuals_infos actuals)
+  standard_given : (s : Standard) (q : Place) (actuals : typed.Actuals) (rest : typed.Lists) (c : Context) (p f : Place) (st : Option Place) (x : Place) → phrases_bound (given_of c actuals) ≤ infos_weight (actuals_infos actuals) → phrases_bound (written_of c actuals) ≤ infos_weight (actuals_infos actuals) → targets_bound (targets_of c actuals) ≤ infos_weight (actuals_infos actuals)
       → ((a : Phrase) → bound (parts_of c 1 a rest) ≤ bound a + infos_weight (lists_infos rest))
       → bound (named_of c p f st x (translating.a_standard_name s) (typed.list_and (typed.OfActuals q actuals) rest)) ≤ infos_weight (actuals_infos actuals) + infos_weight (lists_infos rest)
-  standard_given (standard.Function op) q actuals rest c p f st x h k more = omega (arith, h, first_bound (given_of c actuals), more (phrase.Unary op (first_of (given_of c actuals))))
-  standard_given (standard.Read on) q actuals rest c p f st x h k more = omega (arith, k)
-  standard_given standard.ReadCard q actuals rest c p f st x h k more = omega (arith, k)
-  standard_given (standard.Write on) q actuals rest c p f st x h k more = omega (arith, h)
-  standard_given standard.IoControl q actuals rest c p f st x h k more = omega (arith, h, first_bound (given_of c actuals))
-  standard_given standard.MaxInteger q actuals rest c p f st x h k more = omega arith
+  standard_given (standard.Function op) q actuals rest c p f st x h w k more = omega (arith, h, first_bound (given_of c actuals), more (phrase.Unary op (first_of (given_of c actuals))))
+  standard_given (standard.Read on) q actuals rest c p f st x h w k more = omega (arith, k)
+  standard_given standard.ReadCard q actuals rest c p f st x h w k more = omega (arith, k)
+  standard_given (standard.Write on) q actuals rest c p f st x h w k more = omega (arith, w)
+  standard_given standard.IoControl q actuals rest c p f st x h w k more = omega (arith, h, first_bound (given_of c actuals))
+  standard_given standard.MaxInteger q actuals rest c p f st x h w k more = omega arith
+  standard_given (standard.Variable width) q actuals rest c p f st x h w k more = omega arith
 
   -- ---- trees
 
@@ -276,7 +283,7 @@ module _ (m : Place → ℕ) where
     bound_named (typed.list_and (typed.OfActuals q actuals) rest) c p f st x (translating.a_class types) = omega (arith, infos_both (actuals_infos actuals) (lists_infos rest), bound_given actuals c)
     bound_named (typed.list_and (typed.OfActuals q actuals) rest) c p f st x (translating.a_field class n t) =
         omega (arith, infos_both (actuals_infos actuals) (lists_infos rest), bound_given actuals c, first_bound (given_of c actuals), bound_parts rest c (translating.length_of t) (phrase.Field class n (first_of (given_of c actuals))))
-    bound_named (typed.list_and (typed.OfActuals q actuals) rest) c p f st x (translating.a_standard_name s) = omega (arith, infos_both (actuals_infos actuals) (lists_infos rest), standard_given s q actuals rest c p f st x (bound_given actuals c) (bound_targets actuals c) (bound_parts rest c 1))
+    bound_named (typed.list_and (typed.OfActuals q actuals) rest) c p f st x (translating.a_standard_name s) = omega (arith, infos_both (actuals_infos actuals) (lists_infos rest), standard_given s q actuals rest c p f st x (bound_given actuals c) (bound_written actuals c) (bound_targets actuals c) (bound_parts rest c 1))
     bound_named (typed.list_and (typed.OfActuals q actuals) rest) c p f st x unknown = omega arith
     bound_named (typed.list_and (typed.OfPart q start n) rest) c p f st x (translating.a_variable t) =
         omega (arith, infos_both (infos start) (lists_infos rest), bound_phrase start c, bound_parts rest c (translating.written n) (phrase.Part (translating.length_of t) (translating.written n) (phrase.Named x) (phrase_of c start)))
@@ -305,6 +312,11 @@ module _ (m : Place → ℕ) where
     bound_given typed.no_actuals c = omega arith
     bound_given (typed.actual_and (typed.Star q) rest) c = bound_given rest c
     bound_given (typed.actual_and (typed.Given a) rest) c = omega (arith, infos_both (infos a) (actuals_infos rest), bound_phrase a c, bound_given rest c)
+
+    bound_written : (actuals : typed.Actuals) (c : Context) → phrases_bound (written_of c actuals) ≤ infos_weight (actuals_infos actuals)
+    bound_written typed.no_actuals c = omega arith
+    bound_written (typed.actual_and (typed.Star q) rest) c = bound_written rest c
+    bound_written (typed.actual_and (typed.Given a) rest) c = omega (arith, infos_both (infos a) (actuals_infos rest), value_bound (role_of c.known a) (phrase_of c a), bound_phrase a c, bound_written rest c)
 
     bound_targets : (actuals : typed.Actuals) (c : Context) → targets_bound (targets_of c actuals) ≤ infos_weight (actuals_infos actuals)
     bound_targets typed.no_actuals c = omega arith

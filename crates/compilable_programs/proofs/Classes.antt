@@ -1,15 +1,16 @@
 -- Each record class that a typed tree declares is one of its program's.
-use Rattle.std.proofs.Common.{◌≡◌, ℕ, ◌+◌, ◌≤◌, List, [], ◌∷◌, ◌++◌, map, refl, sym, subst, arith}
+use Rattle.std.proofs.Common.{◌≡◌, ℕ, suc, ◌+◌, ◌≤◌, List, [], ◌∷◌, ◌++◌, map, refl, sym, subst, arith}
 use Rattle.std.specs.Prelude.{Option, Bool, true, false, ⊤}
 use Rattle.value_ops.specs.declared.places.Place.{Place}
 use Rattle.algolw_tree.specs.Tree as tree
 use Rattle.algolw_tree.specs.Tree.{Placed, Formal, Phrase}
+use Rattle.algolw_tree.specs.Standards.{StandardNames, standard_table}
 use Rattle.algolw_typing.specs.Types.{ValueType, Statement, is_place, has}
 use Rattle.algolw_typing.specs.Verdicts.{Verdict, Good}
 use Rattle.algolw_typing.specs.Meanings.{FormalType, by_name, by_value, by_result, by_value_result, for_array, for_procedure}
 use Rattle.algolw_typing.specs.Actuals.{Reading, as_phrases, wanted, behind}
 use Rattle.algolw_typing.specs.Names.{Entry, declared}
-use Rattle.algolw_typing.specs.Scopes.{Known, Scopes, standard_scope, formal_scope, label_entries, names_of_block, control_scope}
+use Rattle.algolw_typing.specs.Scopes.{Known, Scopes, standard_entries, standard_scope, formal_scope, label_entries, names_of_block, control_scope}
 use Rattle.algolw_typing.specs.Typed as typed
 use Rattle.algolw_typing.specs.Typing.{gives, as_verdict, link_verdict, item_verdict, then_item, typed_phrase, typed_phrases, typed_links, typed_items, typed_bounds, typed_decls, typed_decl, typed_formals, typed_parts, first_list, more_lists, typed_groups, use_with_list, use_as_base, list_verdict, part_verdict, reading_of, meanings}
 use Rattle.algolw_typing.specs.Naming.{Class, Naming, and, nothing, declares, Frame, inside, outermost, standard_names, of_procedure, NamePath, scope_of, block_names, formal_names, naming, program_naming, kind_naming, phrases_naming, links_naming, lists_naming, actuals_naming, items_naming, bounds_naming, decls_naming, decl_naming}
@@ -308,10 +309,15 @@ each_inside : (classes : List Place) (cs : List Class) → ((p : Place) → 1 �
 each_inside classes [] h = tt
 each_inside classes (c ∷ cs) h = (h c.place (omega (arith, itself_weighs c.place)), each_inside classes cs (λ p w. h p (omega (arith, w))))
 
+-- no standard name is a class
+standard_held : (classes : List Place) (n : ℕ) (names : StandardNames) → AllHeld classes (standard_infos (standard_known (standard_entries n names)))
+standard_held classes n [] = tt
+standard_held classes n (x ∷ names) = (tt, standard_held classes (suc n) names)
+
 pub program_held : (x : Phrase) → Held (class_places (program_of x)) (all_infos (program_of x).root)
 program_held x =
     let classes = class_places (program_of x) in
     let had = each_inside classes (program_naming x).classes (λ p w. weighs_had p classes (omega (arith, w, ordered_weighs (λ (c : Class). c.place) (at p) (program_naming x).classes))) in
-    let standard : Held classes (standard_infos (standard_known standard_scope)) = record { all = (tt, (tt, (tt, (tt, (tt, (tt, (tt, (tt, (tt, (tt, (tt, (tt, tt)))))))))))) } in
+    let standard : Held classes (standard_infos (standard_known standard_scope)) = record { all = standard_held classes 1 standard_table } in
     both classes standard
     (held classes x (inside outermost standard_names) (scope_of standard_names ∷ []) (standard_scope ∷ []) (record { all = had }))

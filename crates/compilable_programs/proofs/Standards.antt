@@ -111,6 +111,7 @@ module _ (more : List Info) where
       → Fits (table_of is) d (named_of c p f st x (translating.a_standard_name s) lists) want → want ≡ a_statement
   procedure_fits (the.Function op) i c d p f st x lists want e h = absurd (cc i)
   procedure_fits the.MaxInteger i c d p f st x lists want e h = absurd (cc i)
+  procedure_fits (the.Variable width) i c d p f st x lists want e h = absurd (cc i)
   procedure_fits (the.Read on) i c d p f st x typed.no_lists want e h = unnamed d x want e h
   procedure_fits (the.Read on) i c d p f st x (typed.list_and (typed.OfActuals q given) rest) want e h = h.0
   procedure_fits (the.Read on) i c d p f st x (typed.list_and (typed.OfPart q a n) rest) want e h = unnamed d x want e h

@@ -7,7 +7,7 @@ use Rattle.algolw_typing.specs.Types.{ValueType, Gives, Simple, Statement, is_pl
 use Rattle.algolw_typing.specs.Verdicts.{Verdict, Good, Fault, Silent}
 use Rattle.algolw_typing.specs.Meanings.{FormalType, by_name, by_value, by_result, by_value_result, for_array, for_procedure}
 use Rattle.algolw_typing.specs.Actuals.{table_a, actuals_fit}
-use Rattle.program_meaning.specs.Phrases.{Phrase, Empty, Constant, Named, Variable, Array, Label, Procedure, Copied, Unary, Binary, Relation, IsClass, Element, Field, Part as PartOf, Record, RecordAlone, IfThen, Case, Block, Call, Assign, WhileDo, ForStep, ForList, Goto, Assert, Write, Read, ReadCard, IoControl, Phrases, no_phrases, phrase_and, Targets, no_targets, target_and, Subscripts, no_subscripts, star_and, subscript_and, Actuals, no_actuals, actual_and, Actual, Given, Alone, Subarray, Items, no_items, item_and, Bounds, no_bounds, bound_and, Decls, no_decls, variables_and, arrays_and, procedure_and, Formal, formal_places, decl_places, label_places, block_places}
+use Rattle.program_meaning.specs.Phrases.{Phrase, Empty, Constant, Named, Variable, Array, Label, Procedure, Copied, Unary, Binary, Relation, IsClass, Element, Field, Part as PartOf, Record, RecordAlone, IfThen, Case, Block, Call, Assign, WhileDo, ForStep, ForList, Goto, Assert, Write, Read, ReadCard, IoControl, Phrases, no_phrases, phrase_and, Targets, no_targets, target_and, Subscripts, no_subscripts, star_and, subscript_and, Actuals, no_actuals, actual_and, Actual, Given, Alone, Subarray, Items, no_items, item_and, Bounds, no_bounds, bound_and, Decls, no_decls, variables_and, arrays_and, procedure_and, Formal, formal_places, decl_places, label_places, block_places, Role, placed, sets}
 use Rattle.program_meaning.specs.Copying.{formal_types, actual_count, is_good}
 use Rattle.program_soundness.specs.Kinds as kinds
 use Rattle.program_soundness.specs.Kinds.{Want, a_statement, Meaning, Context, meaning_in, Table, at_control, with_formals, with_block}
@@ -168,7 +168,7 @@ module _ (table : Table) where
     )
     suits (ForList st x values body) known c want h k s = (all_suit values known c _ h.1 k (λ p. omega (arith, s p)), suits body (control_known x known) (at_control x.place c) _ h.2 (refl, tt, k) (λ p. omega (arith, s p)))
     suits (Assert st a) known c want h k s = suits a known c _ h.1 k s
-    suits (Write st first values) known c want h k s = values_suit values known c h.1 k s
+    suits (Write st first roles values) known c want h k s = values_suit roles values known c h.1 k s
     suits (Read st next targets) known c want h k s = targets_suit targets known c h.1 k s
     suits (ReadCard st targets) known c want h k s = cards_suit targets known c h.1 k s
     suits (IoControl st a) known c want h k s = suits a known c _ h.1 k s
@@ -177,9 +177,11 @@ module _ (table : Table) where
     all_suit no_phrases known c want h k s = tt
     all_suit (phrase_and a rest) known c want h k s = (suits a known c want h.0 k (λ p. omega (arith, s p)), all_suit rest known c want h.1 k (λ p. omega (arith, s p)))
 
-    values_suit : (as_ : Phrases) (known : List Known) (c : Context) → ValuesFit table c as_ → Alike known c → Apart c (λ p. phrases_bound (at p) as_) → AllSuit known as_
-    values_suit no_phrases known c h k s = tt
-    values_suit (phrase_and a rest) known c h k s = (suits a known c _ h.1 k (λ p. omega (arith, s p)), values_suit rest known c h.2 k (λ p. omega (arith, s p)))
+    values_suit : (roles : List Role) (as_ : Phrases) (known : List Known) (c : Context) → ValuesFit table c roles as_ → Alike known c → Apart c (λ p. phrases_bound (at p) as_) → AllSuit known as_
+    values_suit roles no_phrases known c h k s = tt
+    values_suit [] (phrase_and a rest) known c h k s = absurd h
+    values_suit (placed ∷ roles) (phrase_and a rest) known c h k s = (suits a known c _ h.1 k (λ p. omega (arith, s p)), values_suit roles rest known c h.2 k (λ p. omega (arith, s p)))
+    values_suit (sets width ∷ roles) (phrase_and a rest) known c h k s = (suits a known c _ h.0 k (λ p. omega (arith, s p)), values_suit roles rest known c h.1 k (λ p. omega (arith, s p)))
 
     fields_suit : (types : List ValueType) (as_ : Phrases) (known : List Known) (c : Context) → FieldsFit table c types as_ → Alike known c → Apart c (λ p. phrases_bound (at p) as_) → AllSuit known as_
     fields_suit types no_phrases known c h k s = tt

@@ -3,7 +3,7 @@ use Rattle.std.proofs.Common.{◌≡◌, List, [], ◌∷◌, ◌++◌, refl, sy
 use Rattle.std.specs.Prelude.{Option, Some, None, Bool, true, false, ◌||◌}
 use Rattle.value_ops.specs.declared.places.Place.{Place}
 use Rattle.algolw_typing.specs.Types.{ValueType, is_place, has}
-use Rattle.program_meaning.specs.Phrases.{Phrase, Empty, Constant, Named, Variable, Array, Label, Procedure, Copied, Unary, Binary, Relation, IsClass, Element, Field, Part, Record, RecordAlone, IfThen, Case, Block, Call, Assign, WhileDo, ForStep, ForList, Goto, Assert, Write, Read, ReadCard, IoControl, Phrases, no_phrases, phrase_and, Targets, no_targets, target_and, Subscripts, no_subscripts, star_and, subscript_and, Actuals, no_actuals, actual_and, Actual, Given, Alone, Subarray, Items, no_items, item_and, Bounds, no_bounds, bound_and, Decls, no_decls, variables_and, arrays_and, procedure_and, with, with_phrases, with_targets, with_subscripts, with_actuals, with_actual, with_items, with_bounds, with_decls, kept, formal_places, block_places}
+use Rattle.program_meaning.specs.Phrases.{Phrase, Empty, Constant, Named, Variable, Array, Label, Procedure, Copied, Unary, Binary, Relation, IsClass, Element, Field, Part, Record, RecordAlone, IfThen, Case, Block, Call, Assign, WhileDo, ForStep, ForList, Goto, Assert, Write, Read, ReadCard, IoControl, Phrases, no_phrases, phrase_and, Targets, no_targets, target_and, Subscripts, no_subscripts, star_and, subscript_and, Actuals, no_actuals, actual_and, Actual, Given, Alone, Subarray, Items, no_items, item_and, Bounds, no_bounds, bound_and, Decls, no_decls, variables_and, arrays_and, procedure_and, with, with_phrases, with_targets, with_subscripts, with_actuals, with_actual, with_items, with_bounds, with_decls, kept, formal_places, block_places, Role, placed, sets}
 use Rattle.program_soundness.specs.Kinds.{Want, Meaning, Context, meaning_in, Table, at_control, with_formals, with_block}
 use Rattle.program_soundness.specs.Fits.{Names, IsNamed, CallFits, Fits, AllFit, ValuesFit, FieldsFit, TargetsFit, CardsFit, SubscriptsFit, ItemsFit, BoundsFit, DeclsFit, ActualsFit, ActualFits}
 use Rattle.compilable_programs.proofs.Contexts.{names_of, is_meant, formals_names, block_names}
@@ -89,7 +89,7 @@ module _ (table : Table) where
         cc
     unmoved (Goto st a) c f want h l = ap (Goto st) (names_left c f a _ h.1 l)
     unmoved (Assert st a) c f want h l = ap (Assert st) (unmoved a c f _ h.1 l)
-    unmoved (Write st first values) c f want h l = ap (Write st first) (unmoved_values values c f h.1 l)
+    unmoved (Write st first roles values) c f want h l = ap (Write st first roles) (unmoved_values roles values c f h.1 l)
     unmoved (Read st next targets) c f want h l = ap (Read st next) (unmoved_targets targets c f h.1 l)
     unmoved (ReadCard st targets) c f want h l = ap (ReadCard st) (unmoved_cards targets c f h.1 l)
     unmoved (IoControl st a) c f want h l = ap (IoControl st) (unmoved a c f _ h.1 l)
@@ -98,9 +98,11 @@ module _ (table : Table) where
     unmoved_phrases no_phrases c f want h l = refl
     unmoved_phrases (phrase_and a rest) c f want h l = let e = unmoved a c f want h.0 l in let d = unmoved_phrases rest c f want h.1 l in cc
 
-    unmoved_values : (as_ : Phrases) (c : Context) (f : Place → Phrase) → ValuesFit table c as_ → Leaves c f → with_phrases f as_ ≡ as_
-    unmoved_values no_phrases c f h l = refl
-    unmoved_values (phrase_and a rest) c f h l = let e = unmoved a c f _ h.1 l in let d = unmoved_values rest c f h.2 l in cc
+    unmoved_values : (roles : List Role) (as_ : Phrases) (c : Context) (f : Place → Phrase) → ValuesFit table c roles as_ → Leaves c f → with_phrases f as_ ≡ as_
+    unmoved_values roles no_phrases c f h l = refl
+    unmoved_values [] (phrase_and a rest) c f h l = absurd h
+    unmoved_values (placed ∷ roles) (phrase_and a rest) c f h l = let e = unmoved a c f _ h.1 l in let d = unmoved_values roles rest c f h.2 l in cc
+    unmoved_values (sets width ∷ roles) (phrase_and a rest) c f h l = let e = unmoved a c f _ h.0 l in let d = unmoved_values roles rest c f h.1 l in cc
 
     unmoved_fields : (types : List ValueType) (as_ : Phrases) (c : Context) (f : Place → Phrase) → FieldsFit table c types as_ → Leaves c f → with_phrases f as_ ≡ as_
     unmoved_fields types no_phrases c f h l = refl

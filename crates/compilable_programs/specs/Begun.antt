@@ -14,6 +14,7 @@ use Rattle.algolw_typing.specs.Typed as typed
 abbrev pub is_procedure : Standard → Bool
 is_procedure (standard.Function op) = false
 is_procedure standard.MaxInteger = false
+is_procedure (standard.Variable width) = false
 is_procedure s = true
 
 abbrev pub means_procedure : Option Meaning → Bool

@@ -66,7 +66,7 @@ abbrev mutual
   Suits known (ForStep st x a b c body) = Suits known a × Suits known b × Suits known c × Suits (control_known x known) body
   Suits known (ForList st x values body) = AllSuit known values × Suits (control_known x known) body
   Suits known (Assert st c) = Suits known c
-  Suits known (Write st first values) = AllSuit known values
+  Suits known (Write st first roles values) = AllSuit known values
   Suits known (Read st next targets) = TargetsSuit known targets
   Suits known (ReadCard st targets) = TargetsSuit known targets
   Suits known (IoControl st a) = Suits known a

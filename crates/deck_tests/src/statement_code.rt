@@ -96,6 +96,12 @@ FOR I := 1 UNTIL 2 DO
 Q(I)
 END.
 %EOJ
+%JOB WIDTHS,ADA
+BEGIN I_W := S_W + 1;
+WRITE(1, I_W := 2, S_W := 3, 4);
+WRITE(5)
+END.
+%EOJ
 ";
 
 /// The listing of each job, with an empty line behind it. They were written by hand, from the definitions of the code of a phrase.
@@ -582,5 +588,39 @@ JOB 10 CONTROL
    25    1,1  LeaveBlock 0.0
    26    0,0  Stop
 MARKS 4
+
+JOB 11 WIDTHS
+   1  BEGIN I_W := S_W + 1;
+   2  WRITE(1, I_W := 2, S_W := 3, 4);
+   3  WRITE(5)
+   4  END.
+    0    1,1  Begin
+    1    1,1  EnterBlock 1,1
+    2    1,1  Declared
+    3    1,7  Begin
+    4    1,7  Standard place Columns
+    5    1,7  Push
+    6    1,7  Standard value Blanks
+    7    1,7  Push
+    8    1,7  Constant 1
+    9    1,7  Binary Plus
+   10    1,7  Assign INTEGER
+   11    2,1  Begin
+   12    2,1  Constant 1
+   13    2,1  Write new
+   14    2,1  Constant 2
+   15    2,1  SetWidth Columns
+   16    2,1  Constant 3
+   17    2,1  SetWidth Blanks 0.1
+   18    2,1  Constant 4
+   19    2,1  Write on 0.1
+   20    2,1  CloseWidths 0.1
+   21    3,1  Begin
+   22    3,1  Constant 5
+   23    3,1  Write new
+   24    3,1  Nothing
+   25    1,1  LeaveBlock 0.0
+   26    0,0  Stop
+MARKS 3
 
 ";

@@ -1,5 +1,5 @@
 -- An actual of a procedure or of a procedure formal fits by itself, and is read for its formal as the translation has it.
-use Rattle.std.proofs.Common.{◌≡◌, ℕ, List, [], ◌∷◌, ◌++◌, length, refl, sym, subst, ap, ◌∙◌, arith}
+use Rattle.std.proofs.Common.{◌≡◌, ℕ, List, [], ◌∷◌, ◌++◌, length, refl, sym, subst, ap, ◌∙◌, arith, inl, inr}
 use Rattle.std.proofs.lemmas.Bool.{eqb-true}
 use Rattle.std.specs.Prelude.{Option, Some, None, Bool, true, false, ⊤, nat_eq}
 use Rattle.value_ops.specs.declared.places.Place.{Place}
@@ -152,7 +152,7 @@ module _ (is : List Info) where
   name_passed c d (formal_wanted h) p f x v (typing.a_field cl t) u e rd s g k i = as_phrase c d (formal_wanted h) (Alone p f x v) true k (type_of v) refl i
   name_passed c d (formal_wanted h) p f x v typing.a_label u e rd s g k i = as_phrase c d (formal_wanted h) (Alone p f x v) false k (type_of v) refl i
   name_passed c d (formal_wanted h) p f x v typing.a_control u e rd s g k i = as_phrase c d (formal_wanted h) (Alone p f x v) false k (type_of v) refl i
-  name_passed c d (formal_wanted h) p f x v (typing.a_standard st) u e rd s g k i = as_phrase c d (formal_wanted h) (Alone p f x v) false k (type_of v) refl i
+  name_passed c d (formal_wanted h) p f x v (typing.a_standard st) u e rd s g k i = as_phrase c d (formal_wanted h) (Alone p f x v) (is_variable_name (typing.a_standard st)) k (type_of v) refl i
   name_passed c d any_wanted p f x v (typing.an_array t n) u e rd s g k i = alone_any c d p f x (kinds.an_array t n) not_read (sym e ∙ s.1) tt
   name_passed c d any_wanted p f x v (typing.a_procedure res fs) u e rd s g k i = alone_any c d p f x (kinds.a_procedure res fs) not_read (sym e ∙ s.1) tt
   name_passed c d any_wanted p f x v (typing.a_procedure_formal res) u e rd s g k i = alone_any c d p f x (kinds.a_procedure_formal res) not_read (sym e ∙ s.1) tt
@@ -161,7 +161,7 @@ module _ (is : List Info) where
   name_passed c d any_wanted p f x v (typing.a_field cl t) u e rd s g k i = as_phrase c d any_wanted (Alone p f x v) true k (type_of v) refl i
   name_passed c d any_wanted p f x v typing.a_label u e rd s g k i = as_phrase c d any_wanted (Alone p f x v) false k (type_of v) refl i
   name_passed c d any_wanted p f x v typing.a_control u e rd s g k i = as_phrase c d any_wanted (Alone p f x v) false k (type_of v) refl i
-  name_passed c d any_wanted p f x v (typing.a_standard st) u e rd s g k i = as_phrase c d any_wanted (Alone p f x v) false k (type_of v) refl i
+  name_passed c d any_wanted p f x v (typing.a_standard st) u e rd s g k i = as_phrase c d any_wanted (Alone p f x v) (is_variable_name (typing.a_standard st)) k (type_of v) refl i
   name_passed c d phrase_wanted p f x v m u e rd s g k i = absurd u
   name_passed c d none_wanted p f x v m u e rd s g k i = absurd u
 
@@ -173,11 +173,12 @@ module _ (is : List Info) where
   subscript_read c d p (typed.actual_and (typed.Star q) list) [] v h n = absurd h
   subscript_read c d p (typed.actual_and (typed.Given a) list) [] v h n = absurd h
   subscript_read c d p (typed.actual_and (typed.Star q) list) (x ∷ ps) v h n = let r = subscript_read c d p list ps v h.1 n in (r.0, omega (arith, r.1), omega (arith, r.2), r.3)
-  subscript_read c d p (typed.actual_and (typed.Given a) list) (x ∷ ps) v h n =
-      let same : part_of_node a ≡ a_phrase false h.0.1 = ap (phrase_part false) h.0.3 in
-      let i = int_none h.0.1 (subst (λ z. NoFaults (fault_of (subscripts p (z ∷ parts_of_actuals list) v))) same n) in
-      let r = subscript_read c d p list ps v h.1 i.1 in
-      ((subst (λ g. Fits table d (phrase_of c a) (given_want g)) i.0 h.0.5, r.0), omega (arith, r.1), r.2 ∙ sym (ap (λ z. stars (z ∷ parts_of_actuals list)) same), r.3) where
+  subscript_read c d p (typed.actual_and (typed.Given a) list) (x ∷ ps) v (inr h, more) n = absurd (subst (λ z. NoFaults (fault_of (subscripts p (z ∷ parts_of_actuals list) v))) (ap (phrase_part false) h.1) n)
+  subscript_read c d p (typed.actual_and (typed.Given a) list) (x ∷ ps) v (inl h, more) n =
+      let same : part_of_node a ≡ a_phrase false h.1 = ap (phrase_part false) h.3 in
+      let i = int_none h.1 (subst (λ z. NoFaults (fault_of (subscripts p (z ∷ parts_of_actuals list) v))) same n) in
+      let r = subscript_read c d p list ps v more i.1 in
+      ((subst (λ g. Fits table d (phrase_of c a) (given_want g)) i.0 h.5, r.0), omega (arith, r.1), r.2 ∙ sym (ap (λ z. stars (z ∷ parts_of_actuals list)) same), r.3) where
         int_none : (y : Gives) → NoFaults (fault_of (int p y (subscripts p (parts_of_actuals list) v))) → (y ≡ Simple Integer) × NoFaults (fault_of (subscripts p (parts_of_actuals list) v))
         int_none (Simple Integer) n = (refl, n)
         int_none Statement n = absurd n
@@ -189,10 +190,11 @@ module _ (is : List Info) where
   subscripts_same c d p (typed.actual_and (typed.Star q) list) [] v h n = absurd h
   subscripts_same c d p (typed.actual_and (typed.Given a) list) [] v h n = absurd h
   subscripts_same c d p (typed.actual_and (typed.Star q) list) (x ∷ ps) v h n = subscripts_same c d p list ps v h.1 n
-  subscripts_same c d p (typed.actual_and (typed.Given a) list) (x ∷ ps) v h n =
-      let same : part_of_node a ≡ a_phrase false h.0.1 = ap (phrase_part false) h.0.3 in
-      let i = int_same h.0.1 (subst (λ z. NoFaults (fault_of (subscripts p (z ∷ parts_of_actuals list) v))) same n) in
-      ap (λ z. subscripts p (z ∷ parts_of_actuals list) v) same ∙ i.0 ∙ subscripts_same c d p list ps v h.1 i.1 where
+  subscripts_same c d p (typed.actual_and (typed.Given a) list) (x ∷ ps) v (inr h, more) n = absurd (subst (λ z. NoFaults (fault_of (subscripts p (z ∷ parts_of_actuals list) v))) (ap (phrase_part false) h.1) n)
+  subscripts_same c d p (typed.actual_and (typed.Given a) list) (x ∷ ps) v (inl h, more) n =
+      let same : part_of_node a ≡ a_phrase false h.1 = ap (phrase_part false) h.3 in
+      let i = int_same h.1 (subst (λ z. NoFaults (fault_of (subscripts p (z ∷ parts_of_actuals list) v))) same n) in
+      ap (λ z. subscripts p (z ∷ parts_of_actuals list) v) same ∙ i.0 ∙ subscripts_same c d p list ps v more i.1 where
         int_same : (y : Gives) → NoFaults (fault_of (int p y (subscripts p (parts_of_actuals list) v))) → (int p y (subscripts p (parts_of_actuals list) v) ≡ subscripts p (parts_of_actuals list) v) × NoFaults (fault_of (subscripts p (parts_of_actuals list) v))
         int_same (Simple Integer) n = (refl, n)
         int_same Statement n = absurd n
@@ -204,9 +206,12 @@ module _ (is : List Info) where
   all_are_read c d (typed.actual_and (typed.Star q) list) [] v h = absurd h
   all_are_read c d (typed.actual_and (typed.Given a) list) [] v h = absurd h
   all_are_read c d (typed.actual_and (typed.Star q) list) (x ∷ ps) v h = all_are_read c d list ps v h.1
-  all_are_read c d (typed.actual_and (typed.Given a) list) (x ∷ ps) v h =
-      let same : part_of_node a ≡ a_phrase false h.0.1 = ap (phrase_part false) h.0.3 in
-      ap (λ z. all_read (z ∷ parts_of_actuals list) v) same ∙ all_are_read c d list ps v h.1
+  all_are_read c d (typed.actual_and (typed.Given a) list) (x ∷ ps) v (inl h, more) =
+      let same : part_of_node a ≡ a_phrase false h.1 = ap (phrase_part false) h.3 in
+      ap (λ z. all_read (z ∷ parts_of_actuals list) v) same ∙ all_are_read c d list ps v more
+  all_are_read c d (typed.actual_and (typed.Given a) list) (x ∷ ps) v (inr h, more) =
+      let same : part_of_node a ≡ a_phrase false Statement = ap (phrase_part false) h.1 in
+      ap (λ z. all_read (z ∷ parts_of_actuals list) v) same ∙ all_are_read c d list ps v more
 
   number_none : (p : Place) (n k : ℕ) (v : Verdict) → NoFaults (fault_of (unless (nat_eq n k) 39 p v)) → (n ≡ k) × NoFaults (fault_of v) × (unless (nat_eq n k) 39 p v ≡ v)
   number_none p n k v h = at (nat_eq n k) refl h where
@@ -300,4 +305,8 @@ module _ (is : List Info) where
       (λ h z e. phrase_passed r w (tree.At p f (tree.Named x (tree.list_and (tree.OfActuals q list) tree.no_lists))) (k h) z e) i
   given_passed r w u (tree.At p f (tree.Named x (tree.list_and (tree.OfActuals q list) (tree.list_and m ms)))) k l i = phrase_passed r w (tree.At p f (tree.Named x (tree.list_and (tree.OfActuals q list) (tree.list_and m ms)))) (k i) _ refl
   given_passed r w u (tree.At p f (tree.Named x (tree.list_and (tree.OfPart q a n) ms))) k l i = phrase_passed r w (tree.At p f (tree.Named x (tree.list_and (tree.OfPart q a n) ms))) (k i) _ refl
+  given_passed r (formal_wanted h) u (tree.At p f (tree.Assign x y)) k l i = phrase_passed r (formal_wanted h) (tree.At p f (tree.Assign x y)) (k i) _ refl
+  given_passed r any_wanted u (tree.At p f (tree.Assign x y)) k l i = phrase_passed r any_wanted (tree.At p f (tree.Assign x y)) (k i) _ refl
+  given_passed r phrase_wanted u (tree.At p f (tree.Assign x y)) k l i = absurd u
+  given_passed r none_wanted u (tree.At p f (tree.Assign x y)) k l i = absurd u
   given_passed r w u (tree.At p f z) k l i = phrase_passed r w (tree.At p f z) (k i) _ refl

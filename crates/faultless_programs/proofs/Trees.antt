@@ -40,7 +40,8 @@ use Rattle.faultless_programs.proofs.Chains.{links_good, link_fits, fit_assign}
 use Rattle.faultless_programs.proofs.Types.{result_proper, formal_proper}
 use Rattle.faultless_programs.proofs.Entering.{round_block, round_bounds, round_body, round_control}
 use Rattle.faultless_programs.proofs.Names.{use_good, use_means, found_entry, flag, flag_variable, fit_goto, fit_is, left_variable, fit_alone}
-use Rattle.faultless_programs.proofs.Parts.{onward_good, more_good, never_read, read_good, part_some, string_good, want_by, HasLength, part_step, GivenFit, given_phrase, unlisted}
+use Rattle.faultless_programs.proofs.Parts.{onward_good, more_good, never_read, read_good, part_some, string_good, want_by, HasLength, part_step, GivenFit, unlisted}
+use Rattle.faultless_programs.proofs.Settings.{part_fits}
 use Rattle.faultless_programs.proofs.Listed.{base_fits, list_fits}
 use Rattle.faultless_programs.proofs.Passing.{PartIs, IsActual, ListKnown, given_passed}
 use Rattle.faultless_programs.proofs.Calls.{star_less, call_read, formal_call_read, same_test, given_infos}
@@ -121,12 +122,6 @@ uncounted_agree is (typed.At p f g s _) h = h
 no_place : (g : Gives) → IsNoPlace (given_want g)
 no_place Statement = tt
 no_place (Simple t) = tt
-
--- where a phrase is a variable, it is a place
-if_flag : (b : Bool) (g : Gives) (P : Kind → Type 0) → (b ≡ true → (t : ValueType) → g ≡ Simple t → P (kinds.kind_of t)) → IfVariable b g P
-if_flag true (Simple t) P f = f refl t refl
-if_flag true Statement P f = tt
-if_flag false g P f = tt
 
 module _ (is : List Info) where
   abbrev table : Table
@@ -318,24 +313,11 @@ module _ (is : List Info) where
     parts_fit tree.no_actuals path c d r rd e i a h = tt
     parts_fit (tree.actual_and (tree.Star q) rest) path c d r rd e i a h = (refl, parts_fit rest path c d r (behind rd) (ap behind e) i a h)
     parts_fit (tree.actual_and (tree.Given b) rest) path c d r rd e i a h =
-        let o = typed_phrase path b in
-        let g = given path (wanted rd) b o in
+        let g = given path (wanted rd) b (typed_phrase path b) in
         let more = typed_parts path (behind rd) rest in
-        let k = subst (λ w. ((given path w b o).inside ≡ faults o) × ((given path w b o).part ≡ phrase_part (flag path b) (gives o)) × ((given path w b o).node ≡ o.node)) (sym (ap wanted e)) (given_phrase path b o) in
         let n = none_two g.inside more.inside h in
         let s = agree_two is (infos g.node) (actuals_infos more.actuals) a in
-        let x = phrase_fits b path c d r i.0 (subst (λ n. AllAgree is (infos n)) k.2 s.0) (subst NoFaults k.0 n.0) in (
-          (
-            flag path b,
-            x.gives,
-            k.1 ∙ ap (λ v. phrase_part (flag path b) (type_of v)) x.verdict,
-            ap typed.gives k.2 ∙ x.stated,
-            x.proper,
-            subst (λ n. Fits table d (phrase_of c n) (given_want x.gives)) (sym k.2) x.fits,
-            subst (λ n. IfVariable (flag path b) x.gives (λ j. Fits table d (phrase_of c n) (a_place j))) (sym k.2) (if_flag (flag path b) x.gives (λ j. Fits table d (phrase_of c o.node) (a_place j)) (λ t u l. x.place (flag_variable is r b t) u l)),
-          ),
-          parts_fit rest path c d r (behind rd) (ap behind e) i.1 s.1 n.1,
-        )
+        (part_fits is r b (wanted rd) (ap wanted e) (λ k l. phrase_fits b path c d r i.0 k l) s.0 n.0, parts_fit rest path c d r (behind rd) (ap behind e) i.1 s.1 n.1)
 
     -- the list of a name with one list, as an actual
     list_known : (b : tree.Phrase) (path : Scopes) (c : translating.Context) (d : Context) → Round is path c d → IsFilled b → AllAgree is (infos (typed_phrase path b).node) → ListKnown is path c d b

@@ -54,6 +54,17 @@ pub fn declared(state: &mut State)
     enter(state, Entry::Declared(mark));
 }
 
+/// The end of a WRITE in which a width is set: the entry of its widths is given back, and nothing is held.
+pub fn close_widths(state: &mut State, position: u32) -> Held
+    ghost was: { Seen × Held }
+    requires stands { Stands was.0 state.old }
+    requires clear { IsClear (row_of was.0 0 (instr.CloseWidths position) (machine_of was.0 state.old was.1)) }
+    ensures { Comes was.0 state.new was.1 (Ok result) (row_of was.0 0 (instr.CloseWidths position) (machine_of was.0 state.old was.1)) }
+{
+    cut_to_position(state, position);
+    Held::Nothing
+}
+
 /// The end of a block: all its cells and entries are given back.
 #[inline(always)]
 pub fn leave_block(state: &mut State, position: u32)

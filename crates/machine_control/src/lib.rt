@@ -6,6 +6,6 @@ mod blocks;
 mod control;
 mod loops;
 
-pub use blocks::{declare, declared, enter_block, leave_block};
+pub use blocks::{close_widths, declare, declared, enter_block, leave_block};
 pub use control::{assert, begin_row, choose, goto, jump_unless, on_to};
 pub use loops::{again, end_turn, first_turn, list_turn, next_turn, turn};

@@ -30,3 +30,5 @@ pub mod Rows
 pub mod Memory
 pub mod Standing
 pub mod Entering
+pub mod WriteRows
+pub mod SettingRows

@@ -2,8 +2,10 @@ pub mod Registers
 pub mod Contents
 pub mod Answers
 pub mod Kinds
-pub mod Seen
 pub mod Names
+pub mod Widths
+pub mod Fields
+pub mod Seen
 pub mod Parts
 pub mod Assigned
 pub mod Printed

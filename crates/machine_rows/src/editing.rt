@@ -1,44 +1,59 @@
-ghost use Rattle.std.specs.Prelude.{◌≡◌, ◌++◌, List, Ok};
+ghost use Rattle.std.specs.Prelude.{◌≡◌, ◌≤◌, ◌++◌, List, Ok};
 ghost use Rattle.output_editing.specs.Layout.{Piece};
 ghost use Rattle.output_editing.specs.Page.{HasPrinted};
 ghost use Rattle.stack_code.specs.declared.instructions.Instr.TheVariants as instr;
 ghost use Rattle.stack_code.specs.Limits.{KindRuns};
 ghost use Rattle.machine_rows.specs.Assigned.{as_value};
-ghost use Rattle.machine_rows.specs.Printed.{pieces_of, print_answer};
+ghost use Rattle.program_meaning.specs.Widths.{pieces_of};
+ghost use Rattle.machine_rows.specs.Printed.{print_answer};
 ghost use Rattle.machine_rows.specs.Seen.{Seen, Stands, Comes, Tells, machine_of, row_of, IsClear};
 
 use crate::assigning::{give, spot_held};
 use crate::held::{Halt, Held};
 use crate::state::State;
 use crate::variables::held_value;
-use output_editing::Printer;
+use crate::widths::{widths_for, widths_now};
+use output_editing::{Printer, Widths};
 use stack_code::Code;
 use value_ops::{Card, Fault, Limit, SimpleType, Text, Value};
 
-/// The value that is held is written, on a new line or not. L2.
-pub fn write(state: &mut State, first: bool, held: Held) -> Result<Held, Halt>
+/// The value that is held is written, on a new line or not, by the widths in the entry at a position of this text, as far
+/// as they are set there. F17, L2.
+pub fn write(
+    state: &mut State,
+    first: bool,
+    position: Option<u32>,
+    held: Held,
+) -> Result<Held, Halt>
     ghost seen: { Seen }
     requires stands { Stands seen state.old }
-    requires clear { IsClear (row_of seen 0 (instr.Write first) (machine_of seen state.old held)) }
-    ensures { Tells seen state.new held result (row_of seen 0 (instr.Write first) (machine_of seen state.old held)) }
+    requires clear { IsClear (row_of seen 0 (instr.Write first position) (machine_of seen state.old held)) }
+    ensures { Tells seen state.new held result (row_of seen 0 (instr.Write first position) (machine_of seen state.old held)) }
 {
     let value = held_value(state, held);
-    match print(&mut state.printer, first, &value) {
-        Ok(()) => Ok(held),
-        Err(limit) => Err(Halt::Limit(limit)),
+    let (columns, blanks) = widths_now(state, position);
+    match widths_for(&value, columns, blanks) {
+        Ok(widths) => match print(&mut state.printer, first, &value, widths) {
+            Ok(()) => Ok(held),
+            Err(limit) => Err(Halt::Limit(limit)),
+        },
+        Err(fault) => Err(Halt::Fault(fault)),
     }
 }
 
 /// A value is printed, on a new line or not; of a reference, which isn't, only the new line is begun. L2.
-fn print(printer: &mut Printer, first: bool, value: &Value) -> Result<(), Limit>
+fn print(printer: &mut Printer, first: bool, value: &Value, widths: Widths) -> Result<(), Limit>
+    requires some { 1 ≤ widths.integer }
+    requires columns { widths.integer ≤ 132 }
+    requires blanks { widths.blanks ≤ 132 }
     ensures limit { printer.new.limit ≡ printer.old.limit }
-    ensures printed { (pieces : List Piece) → HasPrinted printer.old pieces → HasPrinted printer.new (pieces ++ pieces_of first value.now) }
-    ensures answer { (pieces : List Piece) → HasPrinted printer.old pieces → result ≡ print_answer first value.now printer.old.limit pieces }
+    ensures printed { (pieces : List Piece) → HasPrinted printer.old pieces → HasPrinted printer.new (pieces ++ pieces_of first value.now widths) }
+    ensures answer { (pieces : List Piece) → HasPrinted printer.old pieces → result ≡ print_answer first value.now widths printer.old.limit pieces }
 {
     match value {
         Value::Reference(_) if !first => Ok(()),
-        _ if first => printer.write_first(value),
-        _ => printer.write_on(value),
+        _ if first => printer.write_first(value, widths),
+        _ => printer.write_on(value, widths),
     }
 }
 

@@ -1,5 +1,6 @@
 pub mod Lays
 pub mod Cutting
 pub mod Pages
-pub mod Widths
+pub mod Within
+pub mod Digits
 pub mod Rows

@@ -5,6 +5,7 @@ ghost use Rattle.output_editing.specs.Page.{HasPrinted, page_of, answer};
 ghost use Rattle.output_editing.specs.Held.{takes, begun, with_room};
 
 use crate::fields::{integer_field, text_field};
+use crate::widths::Widths;
 use line_text::{Line, bits_text, logical_text};
 use std::alloc::{AllocError, Global};
 use std::marker::Model;
@@ -15,9 +16,6 @@ const COLUMNS: usize = 132;
 
 /// The most lines of a job.
 const MOST_LINES: usize = 500;
-
-/// How many blanks stand after a number, a truth value and bits.
-const BLANKS: usize = 2;
 
 /// What a job prints: at most as many lines as its limit, each of at most 132 columns. Contracts see it as a page, which
 /// has the lines of the pieces that were printed since the last `reset`. No call but `new` takes memory.
@@ -80,30 +78,36 @@ impl Printer {
         self.is_full = false;
     }
 
-    /// Prints the first value of WRITE, which begins a line; a reference isn't printed, and only closes the open one. L2
+    /// Prints the first value of WRITE by these widths, and begins a line for it; a reference isn't printed, and only closes the open one. L2
     /// exactly where this needs a line more than the limit, or a call before did; the lines within the limit stay.
-    pub fn write_first(&mut self, value: &Value) -> Result<(), Limit>
+    pub fn write_first(&mut self, value: &Value, widths: Widths) -> Result<(), Limit>
+        requires some { 1 ≤ widths.integer }
+        requires columns { widths.integer ≤ 132 }
+        requires blanks { widths.blanks ≤ 132 }
         ensures limit { self.new.limit ≡ self.old.limit }
         ensures printed { (pieces : List Piece) → HasPrinted self.old pieces
-            → HasPrinted self.new (pieces ++ written_first value.now) }
+            → HasPrinted self.new (pieces ++ written_first value.now widths) }
         ensures answer { (pieces : List Piece) → HasPrinted self.old pieces
-            → result ≡ answer self.old.limit (pieces ++ written_first value.now) }
+            → result ≡ answer self.old.limit (pieces ++ written_first value.now widths) }
     {
         self.end_line();
-        self.write_on(value)
+        self.write_on(value, widths)
     }
 
-    /// Prints a further value of WRITE, or one of WRITEON, on the open line where it fits there, and else on a new one; a
+    /// Prints a further value of WRITE, or one of WRITEON, by these widths, on the open line where it fits there, and else on a new one; a
     /// reference isn't printed. L2 exactly where this needs a line more than the limit, or a call before did; the lines
     /// within the limit stay.
-    pub fn write_on(&mut self, value: &Value) -> Result<(), Limit>
+    pub fn write_on(&mut self, value: &Value, widths: Widths) -> Result<(), Limit>
+        requires some { 1 ≤ widths.integer }
+        requires columns { widths.integer ≤ 132 }
+        requires blanks { widths.blanks ≤ 132 }
         ensures limit { self.new.limit ≡ self.old.limit }
         ensures printed { (pieces : List Piece) → HasPrinted self.old pieces
-            → HasPrinted self.new (pieces ++ written_on value.now) }
+            → HasPrinted self.new (pieces ++ written_on value.now widths) }
         ensures answer { (pieces : List Piece) → HasPrinted self.old pieces
-            → result ≡ answer self.old.limit (pieces ++ written_on value.now) }
+            → result ≡ answer self.old.limit (pieces ++ written_on value.now widths) }
     {
-        self.put_value(value);
+        self.put_value(value, widths);
         if self.is_full {
             Err(Limit::Lines)
         } else {
@@ -142,17 +146,24 @@ impl Printer {
     }
 
     /// Puts what is printed of a value: of a reference nothing is.
-    fn put_value(&mut self, value: &Value)
+    fn put_value(&mut self, value: &Value, widths: Widths)
+        requires { widths.integer ≤ 132 }
         ensures limit { self.new.limit ≡ self.old.limit }
         ensures printed { (pieces : List Piece) → HasPrinted self.old pieces
-            → HasPrinted self.new (pieces ++ puts value.now) }
+            → HasPrinted self.new (pieces ++ puts value.now widths) }
     {
+        let blanks = usize::from(widths.blanks);
         match value {
-            Value::Integer(number) => self.put(integer_field(*number).as_slice(), BLANKS),
-            Value::Logical(truth) => {
-                self.put(text_field(6, logical_text(*truth)).as_slice(), BLANKS);
+            Value::Integer(number) => {
+                self.put(
+                    integer_field(usize::from(widths.integer), *number).as_slice(),
+                    blanks,
+                );
             }
-            Value::Bits(bits) => self.put(text_field(14, &bits_text(*bits)).as_slice(), BLANKS),
+            Value::Logical(truth) => {
+                self.put(text_field(6, logical_text(*truth)).as_slice(), blanks);
+            }
+            Value::Bits(bits) => self.put(text_field(14, &bits_text(*bits)).as_slice(), blanks),
             Value::Str(string) => self.put_string(string.as_slice()),
             Value::Reference(_) => {}
         }

@@ -1,5 +1,5 @@
 -- Names, the lists behind them, and the parts of a list: what is found of them.
-use Rattle.std.proofs.Common.{◌≡◌, ℕ, List, [], ◌∷◌, ◌++◌, Option, map, refl, sym, ap, subst, ◌∙◌, append-nil}
+use Rattle.std.proofs.Common.{◌≡◌, ℕ, Bool, true, false, List, [], ◌∷◌, ◌++◌, Option, map, refl, sym, ap, subst, ◌∙◌, append-nil}
 use Rattle.std.specs.Option.{option_map}
 use Rattle.value_ops.specs.declared.places.Place.{Place}
 use Rattle.algolw_tree.specs.Grammar.{actuals_of}
@@ -10,8 +10,9 @@ use Rattle.algolw_typing.specs.Meanings.{Meaning, Part}
 use Rattle.algolw_typing.specs.Names.{Entry, declared}
 use Rattle.algolw_typing.specs.Scopes.{Known, Scopes}
 use Rattle.algolw_typing.specs.Typed as typed
-use Rattle.algolw_typing.specs.Typing.{ListsOut, Out, PartOut, PartsOut, given, faults, first_list, list_given, meaning_of, named_out, reading_of, target, typed_kind, typed_parts, typed_phrase, use_with_list}
-use Rattle.algolw_typing.specs.Verdicts.{Verdict, fault_of}
+use Rattle.algolw_typing.specs.Types.{Gives}
+use Rattle.algolw_typing.specs.Typing.{ListsOut, Out, PartOut, PartsOut, given, gives, faults, phrase_given, setting_given, setting_part, uncounted, first_list, list_given, meaning_of, named_out, reading_of, target, typed_kind, typed_parts, typed_phrase, use_with_list}
+use Rattle.algolw_typing.specs.Verdicts.{Verdict, fault_of, type_of}
 use Rattle.typing_rules.specs.MeaningView as meaning_view
 use Rattle.typing_rules.specs.View as view
 use Rattle.typed_findings.specs.Findings.{Found, Name, found_of, found_of_actuals, found_of_kind, found_of_lists}
@@ -20,10 +21,11 @@ use Rattle.typed_findings.specs.declared.finding.Finding.TheVariants as finding
 use Rattle.declared_names.specs.KnownView.{entry_of}
 use Rattle.typed_phrases.specs.Applications.{Applies}
 use Rattle.typed_phrases.specs.Fronts.{Front, a_name, actual_step, front_list, front_lists, front_reading, list_step}
+use Rattle.typed_phrases.specs.Settings.{sets_width}
 use Rattle.typed_phrases.specs.Readings.{ListReads, Reads, plain}
 use Rattle.typed_phrases.specs.declared.actuals.Application.{Application}
 use Rattle.typed_phrases.specs.declared.actuals.Given.{Given}
-use Rattle.phrase_checker.specs.Checked.{ActualChecked, Adds, ApplicationChecked, Checked, GivenChecked, ListChecked, PartsChecked, found_itself}
+use Rattle.phrase_checker.specs.Checked.{ActualChecked, Adds, ApplicationChecked, Checked, GivenChecked, ListChecked, PartsChecked, ValueChecked, found_itself}
 use Rattle.phrase_checker.proofs.Growth.{as_well, behind, one_more}
 use Rattle.phrase_checker.proofs.ListSteps.{ListsDone}
 use Rattle.phrase_checker.proofs.PlainParts.{parts_plain}
@@ -93,6 +95,19 @@ actual_checked path w l a s0 s1 s2 g is c n =
       part = sym c.reads.part;
     } in
     subst (λ (z : tree.Actual). ActualChecked s0 s2 (meaning_view.part g.part) (actual_step path w z)) (sym is) checked
+
+-- a setting, which isn't counted
+pub setting_checked : (path : Scopes) (w : Wanted) (l : tree.Actual) (a : tree.Phrase) (s0 s1 : Log) (q : Part) (v : Verdict) (end : Option Gives) → l ≡ tree.Given a → sets_width path w a ≡ true → ValueChecked s0 s1 v end (typed_phrase path a) → q ≡ setting_part (type_of v)
+    → ActualChecked s0 s1 q (actual_step path w l)
+setting_checked path w l (tree.At p f (tree.Assign a b)) s0 s1 q v end is sets c e =
+    let o : Out = typed_phrase path (tree.At p f (tree.Assign a b)) in
+    let node : typed.Node = uncounted o.node in
+    let by : (t : Bool) → PartOut = λ t. elim t as (λ _. PartOut) [ true ↦ setting_given o | false ↦ phrase_given false o ] in
+    let added : Adds s0 s1 (faults o) (found_of node ++ []) = as_well s0 s1 (faults o) (faults o) (found_of node) (found_of node ++ []) refl (sym (append-nil (found_of node))) c.added in
+    let checked : ActualChecked s0 s1 q (record { inside = faults o; part = setting_part (gives o); actual = typed.Given node }) = record { added = added; part = e ∙ ap (λ (u : Verdict). setting_part (type_of u)) c.verdict } in
+    subst (λ (z : tree.Actual). ActualChecked s0 s1 q (actual_step path w z)) (sym is)
+    (subst (λ (t : Bool). ActualChecked s0 s1 q (record { inside = (by t).inside; part = (by t).part; actual = typed.Given (by t).node })) (sym sets) checked)
+setting_checked path w l (tree.At p f k) s0 s1 q v end is sets c e = absurd (cc sets)
 
 -- a name with one list, as it is read there
 alone_read : (path : Scopes) (p f q : Place) (x : List ℕ) (actuals : tree.Actuals) (w : Wanted) (g : Given) (v : Verdict) (ps : List Part) (m : Option Meaning) (s0 s1 : Log)

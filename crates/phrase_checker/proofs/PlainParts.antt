@@ -7,9 +7,9 @@ use Rattle.algolw_typing.specs.Meanings.{FormalType, Meaning, a_variable, an_arr
 use Rattle.algolw_typing.specs.Names.{Entry, declared}
 use Rattle.algolw_typing.specs.Scopes.{Known, Scopes}
 use Rattle.algolw_typing.specs.Typed as typed
-use Rattle.algolw_typing.specs.Types.{Gives, ValueType}
-use Rattle.algolw_typing.specs.Typing.{Out, PartOut, array_given, given, gives, list_given, meaning_of, name_given, part_of_node, parts_of_actuals, parts_of_kind, phrase_given, read_as, subarray_given, typed_parts, typed_phrase, use_alone, variable_name}
-use Rattle.algolw_typing.specs.Verdicts.{Verdict, Good, Fault, Silent, type_of}
+use Rattle.algolw_typing.specs.Types.{Gives, Statement, Simple, ValueType, fits}
+use Rattle.algolw_typing.specs.Typing.{Out, PartOut, Left, control_left, no_variable_left, variable_left, assign_row, left_of, right_end, is_setting, setting_given, setting_part, array_given, given, gives, list_given, meaning_of, name_given, part_of_node, parts_of_actuals, parts_of_kind, phrase_given, read_as, subarray_given, typed_parts, typed_phrase, use_alone, variable_name}
+use Rattle.algolw_typing.specs.Verdicts.{Verdict, Good, Fault, Silent, type_of, part, unless, value}
 use Rattle.typed_phrases.specs.Readings.{plain}
 
 abbrev IsPlain : PartOut → Type 0
@@ -111,6 +111,38 @@ list_plain p w (Some a_label) o h = phrase_plain (variable_name (Some a_label)) 
 list_plain p w (Some a_control) o h = phrase_plain (variable_name (Some a_control)) o h
 list_plain p w (Some (a_standard s)) o h = phrase_plain (variable_name (Some (a_standard s))) o h
 
+-- an assignment that has a type is a statement
+abbrev OnlyStatement : Verdict → Type 0
+OnlyStatement v = plain (setting_part (type_of v)) ≡ phrase_part false (type_of v)
+
+part_only : (g : Option Gives) (row : Gives → Verdict) → ((h : Gives) → OnlyStatement (row h)) → OnlyStatement (part g row)
+part_only None row k = refl
+part_only (Some h) row k = k h
+
+unless_only : (b : Bool) (n : ℕ) (p : Place) → OnlyStatement (unless b n p (Good Statement))
+unless_only true n p = refl
+unless_only false n p = refl
+
+value_only : (p : Place) (g : Gives) (row : ValueType → Verdict) → ((t : ValueType) → OnlyStatement (row t)) → OnlyStatement (value p g row)
+value_only p Statement row k = refl
+value_only p (Simple t) row k = k t
+
+assign_only : (p : Place) (left : Left) (l r : Gives) → OnlyStatement (assign_row p left l r)
+assign_only p control_left l r = refl
+assign_only p no_variable_left l r = refl
+assign_only p variable_left l r = value_only p r (λ u. value p l (λ t. unless (fits u t) 37 p (Good Statement))) (λ u. value_only p l (λ t. unless (fits u t) 37 p (Good Statement)) (λ t. unless_only (fits u t) 37 p))
+
+setting_plain : (path : Scopes) (p f : Place) (a b : tree.Phrase) → IsPlain (setting_given (typed_phrase path (tree.At p f (tree.Assign a b))))
+setting_plain path p f a b =
+    let x : Out = typed_phrase path a in
+    let y : Out = typed_phrase path b in
+    let row : Gives → Gives → Verdict = assign_row p (left_of path a) in
+    part_only (gives x) (λ l. part (gives y) (λ r. part (right_end y.node) (row l))) (λ l. part_only (gives y) (λ r. part (right_end y.node) (row l)) (λ r. part_only (right_end y.node) (row l) (λ e. assign_only p (left_of path a) l e)))
+
+assign_plain : (path : Scopes) (p f : Place) (a b : tree.Phrase) (t : Bool) → let o = typed_phrase path (tree.At p f (tree.Assign a b)) in IsPlain (elim t as (λ _. PartOut) [ true ↦ setting_given o | false ↦ phrase_given false o ])
+assign_plain path p f a b true = setting_plain path p f a b
+assign_plain path p f a b false = phrase_plain false (typed_phrase path (tree.At p f (tree.Assign a b))) refl
+
 given_plain : (path : Scopes) (w : Wanted) (a : tree.Phrase) → IsPlain (given path w a (typed_phrase path a))
 given_plain path w (tree.At p f (tree.Named x tree.no_lists)) = alone_plain w p (declared path x) (typed_phrase path (tree.At p f (tree.Named x tree.no_lists))) refl refl
 given_plain path w (tree.At p f (tree.Named x (tree.list_and (tree.OfActuals q actuals) tree.no_lists))) = list_plain p w (meaning_of (declared path x)) (typed_phrase path (tree.At p f (tree.Named x (tree.list_and (tree.OfActuals q actuals) tree.no_lists)))) refl
@@ -129,7 +161,7 @@ given_plain path w (tree.At p f (tree.Signed minus a)) = phrase_plain false (typ
 given_plain path w (tree.At p f (tree.Chain a links)) = phrase_plain false (typed_phrase path (tree.At p f (tree.Chain a links))) refl
 given_plain path w (tree.At p f (tree.Relation op a b)) = phrase_plain false (typed_phrase path (tree.At p f (tree.Relation op a b))) refl
 given_plain path w (tree.At p f (tree.IsClass a x q)) = phrase_plain false (typed_phrase path (tree.At p f (tree.IsClass a x q))) refl
-given_plain path w (tree.At p f (tree.Assign a b)) = phrase_plain false (typed_phrase path (tree.At p f (tree.Assign a b))) refl
+given_plain path w (tree.At p f (tree.Assign a b)) = assign_plain path p f a b (is_setting path w a b)
 given_plain path w (tree.At p f (tree.IfThen c a tree.Missing)) = phrase_plain false (typed_phrase path (tree.At p f (tree.IfThen c a tree.Missing))) refl
 given_plain path w (tree.At p f (tree.IfThen c a (tree.There b))) = phrase_plain false (typed_phrase path (tree.At p f (tree.IfThen c a (tree.There b)))) refl
 given_plain path w (tree.At p f (tree.CaseValue c values)) = phrase_plain false (typed_phrase path (tree.At p f (tree.CaseValue c values))) refl

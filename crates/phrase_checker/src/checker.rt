@@ -399,9 +399,9 @@ impl<'a> Checker<'a> {
         Ok(Assigned { verdict, end })
     }
 
-    /// Checks the value of an assignment, which isn't counted where it is an assignment itself.
+    /// Checks the value of an assignment, or a setting: where it is an assignment itself, it isn't counted.
     #[cycle(phrases)]
-    fn value<'t>(
+    pub(crate) fn value<'t>(
         &mut self,
         path: &KnownPath<'_, 't, 'a>,
         phrase: &'t Phrase,

@@ -1,5 +1,5 @@
 ghost use Rattle.std.specs.Prelude as std;
-ghost use Rattle.std.specs.Prelude.{◌≡◌, ℕ, ◌∷◌, [], IfOk, OnOk, map};
+ghost use Rattle.std.specs.Prelude.{◌≡◌, ℕ, ◌∷◌, [], IfOk, OnOk, false, map};
 ghost use Rattle.std.specs.Option.{option_map};
 ghost use Rattle.algolw_tree.specs.Grammar.{actuals_of, lists_of};
 ghost use Rattle.algolw_tree.specs.Tree as kinds;
@@ -14,6 +14,7 @@ ghost use Rattle.typed_findings.specs.Findings.{Name};
 ghost use Rattle.typed_phrases.specs.Applications.{Applies};
 ghost use Rattle.typed_phrases.specs.Fronts.{actual_step, list_step};
 ghost use Rattle.typed_phrases.specs.FrontViews.{front_view};
+ghost use Rattle.typed_phrases.specs.Settings.{sets_width};
 ghost use Rattle.phrase_checker.specs.Checked.{ActualChecked, Adds, ApplicationChecked, Checked, GivenChecked, ListChecked, PartsChecked};
 
 use crate::checker::Checker;
@@ -21,7 +22,9 @@ use algolw_tree::{Actual, Applied, List, ListKind, Phrase, Spelling};
 use declared_names::{Known, KnownPath, meaning_of, place_of};
 use std::alloc::AllocError;
 use typed_findings::Finding;
-use typed_phrases::{Application, Front, Given, goto_verdict, list_given, read};
+use typed_phrases::{
+    Application, Front, Given, goto_verdict, is_setting, list_given, read, setting_part,
+};
 use typing_rules::{Part, Reading, Verdict, Wanted};
 use value_ops::Place;
 
@@ -184,6 +187,10 @@ impl<'a> Checker<'a> {
         match actual {
             Actual::Star(_) => Ok(Part::Star),
             Actual::Phrase(phrase) => {
+                if is_setting(path, wanted, phrase) {
+                    let found = self.value(path, phrase)?;
+                    return Ok(setting_part(found.verdict));
+                }
                 let given = self.given(path, wanted, phrase)?;
                 self.conclude(phrase, given.verdict)?;
                 Ok(given.part)
@@ -191,7 +198,7 @@ impl<'a> Checker<'a> {
         }
     }
 
-    /// Checks what is inside a phrase in a list, of which this is wanted, and how it is read.
+    /// Checks what is inside a phrase in a list, of which this is wanted, and how it is read. It is no setting.
     #[cycle(phrases)]
     fn given<'t>(
         &mut self,
@@ -199,6 +206,7 @@ impl<'a> Checker<'a> {
         wanted: Wanted<'a>,
         phrase: &'t Phrase,
     ) -> Result<Given<'a>, AllocError>
+        requires { sets_width path.now (meaning_view.wanted wanted) (tree phrase.now) ≡ false }
         ensures { IfOk result (λ g. GivenChecked path.now self.old.log self.new.log g
             (meaning_view.wanted wanted.entry) (tree phrase.now)) }
     {

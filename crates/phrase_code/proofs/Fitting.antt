@@ -1,11 +1,11 @@
 -- The code of each phrase is fit.
-use Rattle.std.proofs.Common.{◌≡◌, ℕ, suc, ◌+◌, length-append, append_assoc, ◌≤◌, List, [], ◌∷◌, length, Option, None, refl, sym, ap, ◌∙◌, subst, arith}
+use Rattle.std.proofs.Common.{◌≡◌, ℕ, suc, ◌+◌, length-append, append_assoc, ◌≤◌, List, [], ◌∷◌, length, Option, Some, None, refl, sym, ap, ◌∙◌, subst, arith}
 use Rattle.std.proofs.lemmas.Option.{slice_get_within}
 use Rattle.std.specs.Prelude.{slice_get, ◌++◌, Bool, false}
 use Rattle.value_ops.specs.declared.places.Place.{Place}
 use Rattle.algolw_typing.specs.Types.{ValueType, Gives}
 use Rattle.algolw_typing.specs.Meanings.{FormalType, by_name, by_value, by_result, by_value_result, for_array, for_procedure}
-use Rattle.program_meaning.specs.Phrases.{Phrase, Empty, Constant, Named, Variable, Array, Label, Procedure, Copied, Unary, Binary, Relation, IsClass, Element, Field, Part, Record, RecordAlone, IfThen, Case, Block, Call, Assign, WhileDo, ForStep, ForList, Goto, Assert, Write, Read, ReadCard, IoControl, Phrases, no_phrases, phrase_and, Targets, no_targets, target_and, Subscripts, no_subscripts, star_and, subscript_and, Actuals, no_actuals, actual_and, Actual, Given, Alone, Subarray, Items, no_items, item_and, Bounds, no_bounds, bound_and, Decls, no_decls, variables_and, arrays_and, procedure_and, Name, Formal}
+use Rattle.program_meaning.specs.Phrases.{Phrase, Empty, Constant, Named, Variable, Array, Label, Procedure, Copied, Unary, Binary, Relation, IsClass, Element, Field, Part, Record, RecordAlone, IfThen, Case, Block, Call, Assign, WhileDo, ForStep, ForList, Goto, Assert, Write, Read, ReadCard, IoControl, Phrases, no_phrases, phrase_and, Targets, no_targets, target_and, Subscripts, no_subscripts, star_and, subscript_and, Actuals, no_actuals, actual_and, Actual, Given, Alone, Subarray, Items, no_items, item_and, Bounds, no_bounds, bound_and, Decls, no_decls, variables_and, arrays_and, procedure_and, Name, Formal, Role, placed, sets}
 use Rattle.program_meaning.specs.State.{innermost}
 use Rattle.program_meaning.specs.Copying.{dimensions, free_of}
 use Rattle.stack_code.specs.Instr as instr
@@ -83,7 +83,7 @@ module _ (program : List Coded) where
     phrase c w u k Empty f = next w instr.Nothing refl (λ s. s) (omega arith)
     phrase c w u k (Constant v) f = next w (instr.Constant v) refl (λ s. s) (omega arith)
     phrase c w u k (Named x) f = resized (ap named_size (sym (kind_found c.names x))) (named_part program c w u k (stand_at c.names x))
-    phrase c w u k (Variable n) f = stuck w
+    phrase c w u k (Variable n) f = next w (instr.Standard u n) refl (λ s. s) (omega arith)
     phrase c w u k (Array n given) f = stuck w
     phrase c w u k (Label n) f = stuck w
     phrase c w u k (Procedure n) f = stuck w
@@ -140,7 +140,7 @@ module _ (program : List Coded) where
         (from {m = k + 3 + n} (omega arith) (then (within (omega arith) (list c st x (k + 2) (k + 3 + n) values f (omega arith))) (next st instr.Nothing refl (λ s. s) (omega arith)))))))))
     phrase c w u k (Goto st a) f = resized (ap goto_size (sym (head_found c a))) (goto_part program c st k (stand_of c a) (leads program c a f))
     phrase c w u k (Assert st a) f = to (omega arith) (then (next st instr.Begin refl (λ s. s) (omega arith)) (then (within (omega arith) (phrase c st the_value (k + 1) a f)) (next st instr.Assert refl (λ s. s) (omega arith))))
-    phrase c w u k (Write st first values) f = to (omega arith) (then (next st instr.Begin refl (λ s. s) (omega arith)) (then (within (omega arith) (writes c st first (k + 1) values f)) (next st instr.Nothing refl (λ s. s) (omega arith))))
+    phrase c w u k (Write st first roles values) f = to (omega arith) (then (next st instr.Begin refl (λ s. s) (omega arith)) (within (omega arith) (writes c st first None (k + 1) roles values f)))
     phrase c w u k (Read st first targets) f = to (omega arith) (then (next st instr.Begin refl (λ s. s) (omega arith)) (then (within (omega arith) (reads c st first (k + 1) targets f)) (next st instr.Nothing refl (λ s. s) (omega arith))))
     phrase c w u k (ReadCard st targets) f = to (omega arith) (then (next st instr.Begin refl (λ s. s) (omega arith)) (then (within (omega arith) (cards c st (k + 1) targets f)) (next st instr.Nothing refl (λ s. s) (omega arith))))
     phrase c w u k (IoControl st a) f = to (omega arith) (then (next st instr.Begin refl (λ s. s) (omega arith)) (then (within (omega arith) (phrase c st the_value (k + 1) a f)) (next st instr.IoControl refl (λ s. s) (omega arith))))
@@ -170,9 +170,17 @@ module _ (program : List Coded) where
         to (omega arith) (then (within (omega arith) (phrase c st the_value k a f)) (then (plain st (instr.ListTurn body x.text) refl (λ t. (omega (arith, t, l), omega (arith, t))))
         (from (omega arith) (within (omega arith) (list c st x body (k + (size (known c) a + 1)) more f (omega (arith, l)))))))
 
-    writes : (c : Context) (st : Place) (first : Bool) (k : ℕ) (values : Phrases) → AllLead program c.names → Whole k (code_writes c st first k values) (writes_size (known c) values)
-    writes c st first k no_phrases f = to (omega arith) none
-    writes c st first k (phrase_and a more) f = to (omega arith) (then (within (omega arith) (phrase c st the_value k a f)) (then (next st (instr.Write first) refl (λ s. s) (omega arith)) (from (omega arith) (within (omega arith) (writes c st false (k + (size (known c) a + 1)) more f)))))
+    writes : (c : Context) (st : Place) (first : Bool) (position : Option ℕ) (k : ℕ) (roles : List Role) (values : Phrases) → AllLead program c.names → Whole k (code_writes c st first position k roles values) (writes_size (known c) values)
+    writes c st first None k roles no_phrases f = next st instr.Nothing refl (λ s. s) (omega arith)
+    writes c st first (Some p) k roles no_phrases f = next st (instr.CloseWidths p) refl (λ s. s) (omega arith)
+    writes c st first position k [] (phrase_and a more) f =
+        to (omega arith) (then (within (omega arith) (phrase c st the_value k a f)) (then (stuck st) (from (omega arith) (within (omega arith) (writes c st first position (k + (size (known c) a + 1)) [] more f)))))
+    writes c st first position k (placed ∷ roles) (phrase_and a more) f =
+        to (omega arith) (then (within (omega arith) (phrase c st the_value k a f)) (then (next st (instr.Write first position) refl (λ s. s) (omega arith)) (from (omega arith) (within (omega arith) (writes c st false position (k + (size (known c) a + 1)) roles more f)))))
+    writes c st first None k (sets n ∷ roles) (phrase_and a more) f =
+        to (omega arith) (then (within (omega arith) (phrase c st the_value k a f)) (then (next st (instr.SetWidth n None) refl (λ s. s) (omega arith)) (from (omega arith) (within (omega arith) (writes (with_entries 1 c) st first (Some c.count) (k + (size (known c) a + 1)) roles more f)))))
+    writes c st first (Some p) k (sets n ∷ roles) (phrase_and a more) f =
+        to (omega arith) (then (within (omega arith) (phrase c st the_value k a f)) (then (next st (instr.SetWidth n (Some p)) refl (λ s. s) (omega arith)) (from (omega arith) (within (omega arith) (writes c st first (Some p) (k + (size (known c) a + 1)) roles more f)))))
 
     reads : (c : Context) (st : Place) (first : Bool) (k : ℕ) (targets : Targets) → AllLead program c.names → Whole k (code_reads c st first k targets) (targets_size (known c) targets)
     reads c st first k no_targets f = to (omega arith) none

@@ -4,7 +4,7 @@ use Rattle.std.specs.Prelude.{Bool, true, false}
 use Rattle.value_ops.specs.declared.places.Place.{Place}
 use Rattle.algolw_typing.specs.Types.{ValueType, Gives, Statement, Simple, is_place}
 use Rattle.algolw_typing.specs.Meanings.{FormalType, by_name, by_value, by_result, by_value_result, for_array, for_procedure}
-use Rattle.program_meaning.specs.Phrases.{Phrase, Empty, Constant, Named, Variable, Array, Label, Procedure, Copied, Unary, Binary, Relation, IsClass, Element, Field, Part, Record, RecordAlone, IfThen, Case, Block, Call, Assign, WhileDo, ForStep, ForList, Goto, Assert, Write, Read, ReadCard, IoControl, Phrases, no_phrases, phrase_and, Targets, no_targets, target_and, Subscripts, no_subscripts, star_and, subscript_and, Actuals, no_actuals, actual_and, Actual, Given, Alone, Subarray, Items, no_items, item_and, Bounds, no_bounds, bound_and, Decls, no_decls, variables_and, arrays_and, procedure_and, Name, Formal}
+use Rattle.program_meaning.specs.Phrases.{Phrase, Empty, Constant, Named, Variable, Array, Label, Procedure, Copied, Unary, Binary, Relation, IsClass, Element, Field, Part, Record, RecordAlone, IfThen, Case, Block, Call, Assign, WhileDo, ForStep, ForList, Goto, Assert, Write, Read, ReadCard, IoControl, Phrases, no_phrases, phrase_and, Targets, no_targets, target_and, Subscripts, no_subscripts, star_and, subscript_and, Actuals, no_actuals, actual_and, Actual, Given, Alone, Subarray, Items, no_items, item_and, Bounds, no_bounds, bound_and, Decls, no_decls, variables_and, arrays_and, procedure_and, Name, Formal, Role, placed, sets}
 use Rattle.program_meaning.specs.State.{innermost}
 use Rattle.stack_code.specs.Instr as instr
 use Rattle.stack_code.specs.Instr.{Instr, Mode, the_value, the_place, as_asked}
@@ -243,7 +243,7 @@ mutual
   code_sized c w u k (ForList st x values body) = sized_as (omega arith) (joined (single st _) (joined (single st _) (joined (code_sized (turn_context c x) st the_value _ body) (joined (single st _) (joined (list_sized c st x _ _ values) (single st _))))))
   code_sized c w u k (Goto st a) = sized_as (ap goto_size (sym (head_found c a))) (goto_sized c st (stand_of c a))
   code_sized c w u k (Assert st a) = joined (single st _) (joined (code_sized c st the_value _ a) (single st _))
-  code_sized c w u k (Write st first values) = joined (single st _) (joined (writes_sized c st first _ values) (single st _))
+  code_sized c w u k (Write st first roles values) = joined (single st _) (writes_sized c st first None _ roles values)
   code_sized c w u k (Read st next targets) = joined (single st _) (joined (reads_sized c st next _ targets) (single st _))
   code_sized c w u k (ReadCard st targets) = joined (single st _) (joined (cards_sized c st _ targets) (single st _))
   code_sized c w u k (IoControl st a) = joined (single st _) (joined (code_sized c st the_value _ a) (single st _))
@@ -266,9 +266,12 @@ mutual
   list_sized c st x body k no_phrases = none
   list_sized c st x body k (phrase_and a rest) = joined (code_sized c st the_value k a) (joined (single st _) (list_sized c st x body _ rest))
 
-  pub writes_sized : (c : Context) (st : Place) (first : Bool) (k : ℕ) (values : Phrases) → Sized (code_writes c st first k values) (writes_size (known c) values)
-  writes_sized c st first k no_phrases = none
-  writes_sized c st first k (phrase_and a rest) = joined (code_sized c st the_value k a) (joined (single st _) (writes_sized c st false _ rest))
+  pub writes_sized : (c : Context) (st : Place) (first : Bool) (position : Option ℕ) (k : ℕ) (roles : List Role) (values : Phrases) → Sized (code_writes c st first position k roles values) (writes_size (known c) values)
+  writes_sized c st first position k roles no_phrases = single st _
+  writes_sized c st first position k [] (phrase_and a rest) = joined (code_sized c st the_value k a) (joined (single st _) (writes_sized c st first position _ [] rest))
+  writes_sized c st first position k (placed ∷ roles) (phrase_and a rest) = joined (code_sized c st the_value k a) (joined (single st _) (writes_sized c st false position _ roles rest))
+  writes_sized c st first None k (sets n ∷ roles) (phrase_and a rest) = joined (code_sized c st the_value k a) (joined (single st _) (writes_sized (with_entries 1 c) st first (Some c.count) _ roles rest))
+  writes_sized c st first (Some p) k (sets n ∷ roles) (phrase_and a rest) = joined (code_sized c st the_value k a) (joined (single st _) (writes_sized c st first (Some p) _ roles rest))
 
   pub reads_sized : (c : Context) (st : Place) (next : Bool) (k : ℕ) (targets : Targets) → Sized (code_reads c st next k targets) (targets_size (known c) targets)
   reads_sized c st next k no_targets = none

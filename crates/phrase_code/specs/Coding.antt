@@ -3,7 +3,7 @@ use Rattle.std.specs.Prelude.{ℕ, ◌+◌, ◌-◌, List, [], ◌∷◌, map, l
 use Rattle.value_ops.specs.declared.places.Place.{Place}
 use Rattle.algolw_typing.specs.Types.{ValueType, Gives, Statement, Simple, is_place}
 use Rattle.algolw_typing.specs.Meanings.{FormalType, by_name, by_value, by_result, by_value_result, for_array, for_procedure}
-use Rattle.program_meaning.specs.Phrases.{Phrase, Empty, Constant, Named, Variable, Array, Label, Procedure, Copied, Unary, Binary, Relation, IsClass, Element, Field, Part, Record, RecordAlone, IfThen, Case, Block, Call, Assign, WhileDo, ForStep, ForList, Goto, Assert, Write, Read, ReadCard, IoControl, Phrases, no_phrases, phrase_and, Targets, no_targets, target_and, Subscripts, no_subscripts, star_and, subscript_and, Actuals, no_actuals, actual_and, Actual, Given, Alone, Subarray, Items, no_items, item_and, Bounds, no_bounds, bound_and, Decls, no_decls, variables_and, arrays_and, procedure_and, Name, Formal}
+use Rattle.program_meaning.specs.Phrases.{Phrase, Empty, Constant, Named, Variable, Array, Label, Procedure, Copied, Unary, Binary, Relation, IsClass, Element, Field, Part, Record, RecordAlone, IfThen, Case, Block, Call, Assign, WhileDo, ForStep, ForList, Goto, Assert, Write, Read, ReadCard, IoControl, Phrases, no_phrases, phrase_and, Targets, no_targets, target_and, Subscripts, no_subscripts, star_and, subscript_and, Actuals, no_actuals, actual_and, Actual, Given, Alone, Subarray, Items, no_items, item_and, Bounds, no_bounds, bound_and, Decls, no_decls, variables_and, arrays_and, procedure_and, Name, Formal, Role, placed, sets}
 use Rattle.program_meaning.specs.State.{for_value, for_place, innermost}
 use Rattle.program_meaning.specs.Copying.{dimensions, is_variable_of, free_of}
 use Rattle.stack_code.specs.Instr as instr
@@ -134,6 +134,11 @@ begin_code (Some st) = one st instr.Begin
 abbrev pub make_code : Place → Option ValueType → List Coded
 make_code w None = []
 make_code w (Some t) = one w (instr.Make t)
+
+-- the end of a WRITE: the entry of its widths is given back, where there is one
+abbrev pub write_end : Option ℕ → Instr
+write_end None = instr.Nothing
+write_end (Some position) = instr.CloseWidths position
 
 -- a function's value is made into its type, and then takes a cell
 abbrev pub result_code : Place → Option ValueType → List Coded
@@ -293,7 +298,7 @@ abbrev mutual
   code c w u k Empty = one w instr.Nothing
   code c w u k (Constant v) = one w (instr.Constant v)
   code c w u k (Named x) = named_code c w u (stand_at c.names x)
-  code c w u k (Variable n) = one w instr.Stuck
+  code c w u k (Variable n) = one w (instr.Standard u n)
   code c w u k (Array n given) = one w instr.Stuck
   code c w u k (Label n) = one w instr.Stuck
   code c w u k (Procedure n) = one w instr.Stuck
@@ -338,7 +343,7 @@ abbrev mutual
       code_list c st x (k + 2) (k + 3 + size (known (turn_context c x)) body) values ▸ one st instr.Nothing
   code c w u k (Goto st a) = goto_code c st (stand_of c a)
   code c w u k (Assert st a) = one st instr.Begin ▸ code c st the_value (k + 1) a ▸ one st instr.Assert
-  code c w u k (Write st first values) = one st instr.Begin ▸ code_writes c st first (k + 1) values ▸ one st instr.Nothing
+  code c w u k (Write st first roles values) = one st instr.Begin ▸ code_writes c st first None (k + 1) roles values
   code c w u k (Read st next targets) = one st instr.Begin ▸ code_reads c st next (k + 1) targets ▸ one st instr.Nothing
   code c w u k (ReadCard st targets) = one st instr.Begin ▸ code_cards c st (k + 1) targets ▸ one st instr.Nothing
   code c w u k (IoControl st a) = one st instr.Begin ▸ code c st the_value (k + 1) a ▸ one st instr.IoControl
@@ -364,9 +369,13 @@ abbrev mutual
   code_list c st x body k no_phrases = []
   code_list c st x body k (phrase_and a rest) = code c st the_value k a ▸ one st (instr.ListTurn body x.text) ▸ code_list c st x body (k + (size (known c) a + 1)) rest
 
-  pub code_writes : Context → Place → Bool → ℕ → Phrases → List Coded
-  code_writes c st first k no_phrases = []
-  code_writes c st first k (phrase_and a rest) = code c st the_value k a ▸ one st (instr.Write first) ▸ code_writes c st false (k + (size (known c) a + 1)) rest
+  -- the parts of a WRITE, and its end; an entry holds the widths from the first setting on, if there is any
+  pub code_writes : Context → Place → Bool → (position : Option ℕ) → ℕ → List Role → Phrases → List Coded
+  code_writes c st first position k roles no_phrases = one st (write_end position)
+  code_writes c st first position k (placed ∷ roles) (phrase_and a rest) = code c st the_value k a ▸ one st (instr.Write first position) ▸ code_writes c st false position (k + (size (known c) a + 1)) roles rest
+  code_writes c st first None k (sets n ∷ roles) (phrase_and a rest) = code c st the_value k a ▸ one st (instr.SetWidth n None) ▸ code_writes (with_entries 1 c) st first (Some c.count) (k + (size (known c) a + 1)) roles rest
+  code_writes c st first (Some p) k (sets n ∷ roles) (phrase_and a rest) = code c st the_value k a ▸ one st (instr.SetWidth n (Some p)) ▸ code_writes c st first (Some p) (k + (size (known c) a + 1)) roles rest
+  code_writes c st first position k [] (phrase_and a rest) = code c st the_value k a ▸ one st instr.Stuck ▸ code_writes c st first position (k + (size (known c) a + 1)) [] rest
 
   pub code_reads : Context → Place → Bool → ℕ → Targets → List Coded
   code_reads c st next k no_targets = []

@@ -199,7 +199,7 @@ abbrev mutual
   size known (ForList st x values body) = 2 + (size (control_known x known) body + (1 + (list_size known values + 1)))
   size known (Goto st a) = goto_size (head_kind known a)
   size known (Assert st c) = 1 + (size known c + 1)
-  size known (Write st first values) = 1 + (writes_size known values + 1)
+  size known (Write st first roles values) = 1 + writes_size known values
   size known (Read st next targets) = 1 + (targets_size known targets + 1)
   size known (ReadCard st targets) = 1 + (targets_size known targets + 1)
   size known (IoControl st a) = 1 + (size known a + 1)
@@ -224,8 +224,9 @@ abbrev mutual
   list_size known no_phrases = 0
   list_size known (phrase_and a rest) = size known a + (1 + list_size known rest)
 
+  -- its parts, and its end
   pub writes_size : List Known → Phrases → ℕ
-  writes_size known no_phrases = 0
+  writes_size known no_phrases = 1
   writes_size known (phrase_and a rest) = size known a + (1 + writes_size known rest)
 
   pub targets_size : List Known → Targets → ℕ

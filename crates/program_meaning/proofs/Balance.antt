@@ -7,7 +7,8 @@ use Rattle.value_ops.specs.declared.faults.Fault.TheVariants as fault
 use Rattle.value_ops.specs.Strings.{part}
 use Rattle.algolw_typing.specs.Types.{ValueType, Gives, Statement, Simple}
 use Rattle.algolw_typing.specs.Meanings.{FormalType, by_name, by_value, by_result, by_value_result, for_array, for_procedure}
-use Rattle.program_meaning.specs.Phrases.{Phrase, Empty, Constant, Named, Variable, Array, Label, Procedure, Copied, Unary, Binary, Relation, IsClass, Element, Field, Part, Record, RecordAlone, IfThen, Case, Block, Call, Assign, WhileDo, ForStep, ForList, Goto, Assert, Write, Read, ReadCard, IoControl, Phrases, no_phrases, phrase_and, Targets, no_targets, target_and, Subscripts, no_subscripts, star_and, subscript_and, Actuals, no_actuals, actual_and, Actual, Given, Alone, Subarray, Items, no_items, item_and, Bounds, no_bounds, bound_and, Decls, no_decls, variables_and, arrays_and, procedure_and, Name, Formal, Mark, label_places}
+use Rattle.program_meaning.specs.Phrases.{Phrase, Empty, Constant, Named, Variable, Array, Label, Procedure, Copied, Unary, Binary, Relation, IsClass, Element, Field, Part, Record, RecordAlone, IfThen, Case, Block, Call, Assign, WhileDo, ForStep, ForList, Goto, Assert, Write, Read, ReadCard, IoControl, Phrases, no_phrases, phrase_and, Targets, no_targets, target_and, Subscripts, no_subscripts, star_and, subscript_and, Actuals, no_actuals, actual_and, Actual, Given, Alone, Subarray, Items, no_items, item_and, Bounds, no_bounds, bound_and, Decls, no_decls, variables_and, arrays_and, procedure_and, Name, Formal, Mark, label_places, Role, placed, sets}
+use Rattle.program_meaning.specs.Widths.{WidthsSet, none_set, with_width}
 use Rattle.program_meaning.specs.Operations.{unary, binary, relation}
 use Rattle.program_meaning.specs.State as state
 use Rattle.program_meaning.specs.State.{State, Outcome, on, jump, stop, M, behind_first, with_shown, on_first, Setting, Why, by_fault, by_limit, wrong, unfinished, Entry, ShownName, Use, for_value, for_place, nothing, a_value, a_spot, Spot, whole, within, ArrayInfo, RecordInfo, a_number, in_block, in_call, in_actual, in_turn, after, ◌>>=◌, ◌>>◌, give, halt, fault_at, test, tick, note_begun, begin, innermost, take_cells, give_back, holding, push_entry, pop_entry, under, deeper, shallower, entered, show, value_in, value_of, spot_in, spot_of, integer_in, integer_of, truth_in, truth_of, string_in, record_in, answer_at, only_value, defined, look, put, variable, new, record_at, the_record, made, made_result, characters, string_held, put_string, store, assign, array_at, the_array, filled_in, all_within, subscripted, offset, elements, element_of, place_array, make_array, make_record, is_place_of, field_of, is_of_class, spot_within, string_answer, print, within_lines, put_pieces, read_so_far, set_read, scan_answer, Made, back_to, is_own, caught, catching, cells_held, set_cells, made_here, most_cells, most_depth, most_records, most_fields, for_an_array}
@@ -420,7 +421,7 @@ module _ (set : Setting) (later : env.Job → M Bodied state.Given) (hl : (job :
     balanced (ForList st x values body) u w e = balanced_only u w (balanced_then (balanced_begin set (Some st)) (balanced_then (balanced_list values st x body e) (balanced_keeps (keeps_give _))))
     balanced (Goto st a) u w e = balanced_goto st (head e a)
     balanced (Assert st c) u w e = balanced_only u w (balanced_then (balanced_begin set (Some st)) (balanced_bind (balanced_truth st (balanced c for_value st e)) (λ truth. balanced_keeps (keeps_test truth (keeps_give _) (keeps_fault fault.AssertionFalse st)))))
-    balanced (Write st first values) u w e = balanced_only u w (balanced_then (balanced_begin set (Some st)) (balanced_then (balanced_writes values st first e) (balanced_keeps (keeps_give _))))
+    balanced (Write st first roles values) u w e = balanced_only u w (balanced_then (balanced_begin set (Some st)) (balanced_then (balanced_writes values st first none_set roles e) (balanced_keeps (keeps_give _))))
     balanced (Read st next targets) u w e = balanced_only u w (balanced_then (balanced_begin set (Some st)) (balanced_then (balanced_reads targets st next e) (balanced_keeps (keeps_give _))))
     balanced (ReadCard st targets) u w e = balanced_only u w (balanced_then (balanced_begin set (Some st)) (balanced_then (balanced_cards targets st e) (balanced_keeps (keeps_give _))))
     balanced (IoControl st a) u w e = balanced_only u w (balanced_then (balanced_begin set (Some st)) (balanced_bind (balanced_integer st (balanced a for_value st e)) (λ k. balanced_keeps (keeps_then (keeps_io_control k) (keeps_give _)))))
@@ -446,9 +447,11 @@ module _ (set : Setting) (later : env.Job → M Bodied state.Given) (hl : (job :
     balanced_list no_phrases w x body e = balanced_keeps (keeps_give tt)
     balanced_list (phrase_and a rest) w x body e = balanced_bind (balanced_integer w (balanced a for_value w e)) (λ k. balanced_then (balanced_holding w (balanced_tick set w (record { by = λ s. hl (env.list_job w x k body e) s tt }))) (balanced_list rest w x body e))
 
-    balanced_writes : (ps : Phrases) (w : Place) (first : Bool) (e : Env) → Balanced (env.go_writes set later ps w first e)
-    balanced_writes no_phrases w first e = balanced_keeps (keeps_give tt)
-    balanced_writes (phrase_and a rest) w first e = balanced_bind (balanced_value w (balanced a for_value w e)) (λ v. balanced_then (balanced_keeps (keeps_written set w first v)) (balanced_writes rest w false e))
+    balanced_writes : (ps : Phrases) (w : Place) (first : Bool) (ws : WidthsSet) (roles : List Role) (e : Env) → Balanced (env.go_writes set later ps w first ws roles e)
+    balanced_writes no_phrases w first ws roles e = balanced_keeps (keeps_give tt)
+    balanced_writes (phrase_and a rest) w first ws [] e = balanced_keeps (keeps_wrong w)
+    balanced_writes (phrase_and a rest) w first ws (placed ∷ roles) e = balanced_bind (balanced_value w (balanced a for_value w e)) (λ v. balanced_then (balanced_keeps (keeps_written set w first ws v)) (balanced_writes rest w false ws roles e))
+    balanced_writes (phrase_and a rest) w first ws (sets k ∷ roles) e = balanced_bind (balanced_integer w (balanced a for_value w e)) (λ n. balanced_writes rest w first (with_width k n ws) roles e)
 
     balanced_reads : (ps : Targets) (w : Place) (next : Bool) (e : Env) → Balanced (env.go_reads set later ps w next e)
     balanced_reads no_targets w next e = balanced_keeps (keeps_give tt)

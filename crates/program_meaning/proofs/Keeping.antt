@@ -10,16 +10,18 @@ use Rattle.value_ops.specs.declared.values.Value.TheVariants as value
 use Rattle.value_ops.specs.declared.values.RecordId.{RecordId}
 use Rattle.value_ops.specs.declared.values.SimpleType.{SimpleType}
 use Rattle.value_ops.specs.Strings.{with_part}
+use Rattle.algolw_tree.specs.declared.standard.Width.{Width}
+use Rattle.algolw_tree.specs.declared.standard.Width.TheVariants.{Columns, Blanks}
 use Rattle.algolw_typing.specs.Types.{ValueType, Integer, Logical, Bits, Str, Reference, has}
 use Rattle.output_editing.specs.Layout.{Piece, Break, lay}
-use Rattle.output_editing.specs.Written.{written_first, written_on}
 use Rattle.input_editing.specs.Columns.{card_end, card_read, read_from}
 use Rattle.input_editing.specs.Scanning.{scanned}
 use Rattle.program_meaning.specs.Phrases.{Actuals, no_actuals, actual_and, Items, Decls, Name, Formal}
 use Rattle.program_meaning.specs.Operations.{Answer, gives, faults, misfits}
 use Rattle.program_meaning.specs.State as state
 use Rattle.program_meaning.specs.State.{State, Outcome, on, jump, stop, M, Setting, Why, by_fault, by_limit, wrong, unfinished, Entry, ShownName, Use, for_value, for_place, nothing, a_value, a_spot, Spot, whole, within, ArrayInfo, RecordInfo, a_number, in_block, in_call, in_actual, in_turn, after, ◌>>=◌, ◌>>◌, give, halt, fault_at, test, tick, note_begun, begin, innermost, take_cells, give_back, holding, push_entry, pop_entry, under, deeper, shallower, entered, show, value_in, value_of, spot_in, spot_of, integer_in, integer_of, truth_in, truth_of, string_in, record_in, answer_at, only_value, defined, look, put, variable, new, record_at, the_record, made, made_result, characters, string_held, put_string, store, assign, array_at, the_array, filled_in, all_within, subscripted, offset, elements, element_of, place_array, make_array, make_record, is_place_of, field_of, is_of_class, spot_within, string_answer, print, within_lines, put_pieces, read_so_far, set_read, scan_answer, Made, back_to, is_own, caught, catching, cells_held, set_cells, made_here, most_cells, most_depth, most_records, most_fields}
-use Rattle.program_meaning.specs.Copying.{firsts, no_actuals_given, scan, string_read, take_card, io_control, value_written, from}
+use Rattle.program_meaning.specs.Copying.{firsts, no_actuals_given, scan, string_read, take_card, io_control, from}
+use Rattle.program_meaning.specs.Widths.{WidthsSet, variable_of, width_now, may_be_placed, widths_of, pieces_of, value_placed, value_written}
 use Rattle.program_meaning.specs.Environments as env
 use Rattle.program_meaning.specs.Environments.{Env, empty, bind, find, Bodied, Meant, Thing, to_constant, to_variable, to_array, to_label, to_procedure, thunk, extend, head}
 
@@ -278,9 +280,15 @@ pub keeps_io_control : (n : ℤ) → Keeps (io_control n)
 keeps_io_control (pos n) = keeps_test (nat_eq n 1) (keeps_bind keeps_read_so_far (λ k. keeps_set_read (card_end k))) (keeps_test (nat_eq n 2) (keeps_print (Break ∷ [])) (keeps_give tt))
 keeps_io_control (negsuc n) = keeps_give tt
 
-pub keeps_written : (set : Setting) (w : Place) (first : Bool) (v : Value) → Keeps (value_written set w first v)
-keeps_written set w true v = keeps_put_pieces set w (written_first v)
-keeps_written set w false v = keeps_put_pieces set w (written_on v)
+keeps_width : (w : Place) (k : Width) (o : Option ℤ) → Keeps (width_now w k o)
+keeps_width w k (Some n) = keeps_give n
+keeps_width w k None = keeps_bind (keeps_look w (variable_of k)) (λ v. keeps_integer_in w v)
+
+keeps_placed : (set : Setting) (w : Place) (first : Bool) (v : Value) (columns blanks : ℤ) → Keeps (value_placed set w first v columns blanks)
+keeps_placed set w first v columns blanks = keeps_test (may_be_placed v columns blanks) (keeps_put_pieces set w (pieces_of first v (widths_of columns blanks))) (keeps_fault fault.WidthOutOfRange w)
+
+pub keeps_written : (set : Setting) (w : Place) (first : Bool) (ws : WidthsSet) (v : Value) → Keeps (value_written set w first ws v)
+keeps_written set w first ws v = keeps_bind (keeps_width w Columns ws.columns) (λ columns. keeps_bind (keeps_width w Blanks ws.blanks) (λ blanks. keeps_placed set w first v columns blanks))
 
 pub keeps_no_actuals : (w : Place) (given : Actuals) → Keeps (no_actuals_given w given)
 keeps_no_actuals w no_actuals = keeps_give tt

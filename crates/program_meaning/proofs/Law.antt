@@ -10,7 +10,8 @@ use Rattle.algolw_typing.specs.Types.{ValueType, Gives, Statement, Simple}
 use Rattle.algolw_typing.specs.Verdicts.{Good}
 use Rattle.algolw_typing.specs.Meanings.{FormalType, by_name, by_value, by_result, by_value_result, for_array, for_procedure}
 use Rattle.algolw_typing.specs.Actuals.{actuals_fit}
-use Rattle.program_meaning.specs.Phrases.{Phrase, Empty, Constant, Named, Variable, Array, Label, Procedure, Copied, Unary, Binary, Relation, IsClass, Element, Field, Part, Record, RecordAlone, IfThen, Case, Block, Call, Assign, WhileDo, ForStep, ForList, Goto, Assert, Write, Read, ReadCard, IoControl, Phrases, no_phrases, phrase_and, Targets, no_targets, target_and, Subscripts, no_subscripts, star_and, subscript_and, Actuals, no_actuals, actual_and, Actual, Given, Alone, Subarray, Items, no_items, item_and, Bounds, no_bounds, bound_and, Decls, no_decls, variables_and, arrays_and, procedure_and, Name, Formal, Mark, leaf, shape, phrases_shape, targets_shape, subscripts_shape, actuals_shape, actual_shape, items_shape, bounds_shape, decls_shape, with, with_phrases, with_targets, with_subscripts, with_actuals, with_actual, with_items, with_bounds, with_decls, kept, formal_places, label_places, block_places}
+use Rattle.program_meaning.specs.Phrases.{Phrase, Empty, Constant, Named, Variable, Array, Label, Procedure, Copied, Unary, Binary, Relation, IsClass, Element, Field, Part, Record, RecordAlone, IfThen, Case, Block, Call, Assign, WhileDo, ForStep, ForList, Goto, Assert, Write, Read, ReadCard, IoControl, Phrases, no_phrases, phrase_and, Targets, no_targets, target_and, Subscripts, no_subscripts, star_and, subscript_and, Actuals, no_actuals, actual_and, Actual, Given, Alone, Subarray, Items, no_items, item_and, Bounds, no_bounds, bound_and, Decls, no_decls, variables_and, arrays_and, procedure_and, Name, Formal, Mark, leaf, shape, phrases_shape, targets_shape, subscripts_shape, actuals_shape, actual_shape, items_shape, bounds_shape, decls_shape, with, with_phrases, with_targets, with_subscripts, with_actuals, with_actual, with_items, with_bounds, with_decls, kept, formal_places, label_places, block_places, Role, placed, sets}
+use Rattle.program_meaning.specs.Widths.{WidthsSet, none_set, with_width}
 use Rattle.program_meaning.specs.Operations.{unary, binary, relation}
 use Rattle.program_meaning.specs.State as state
 use Rattle.program_meaning.specs.State.{M, State, on, Setting, Use, for_value, for_place, nothing, a_value, wrong, unfinished, Made, a_number, in_block, in_call, in_actual, in_turn, ◌>>=◌, ◌>>◌, give, innermost, take_cells, test, catching, filled_in, for_an_array}
@@ -392,7 +393,7 @@ module _ (set : Setting) (later : environments.Job → M Bodied state.Given) (la
     law (ForList st x values body) u w e = same_only u w (same_then (same_begin set (Some st)) (same_then (law_list values st x body e) (same_give i nothing)))
     law (Goto st a) u w e = same_then (same_begin set (Some st)) (same_went st e a)
     law (Assert st c) u w e = same_only u w (same_then (same_begin set (Some st)) (same_bind _ (same_truth st (law c for_value st e)) (λ truth. same_test truth (same_give i nothing) (same_fault i fault.AssertionFalse st))))
-    law (Write st first values) u w e = same_only u w (same_then (same_begin set (Some st)) (same_then (law_writes values st first e) (same_give i nothing)))
+    law (Write st first roles values) u w e = same_only u w (same_then (same_begin set (Some st)) (same_then (law_writes values st first none_set roles e) (same_give i nothing)))
     law (Read st next targets) u w e = same_only u w (same_then (same_begin set (Some st)) (same_then (law_reads targets st next e) (same_give i nothing)))
     law (ReadCard st targets) u w e = same_only u w (same_then (same_begin set (Some st)) (same_then (law_cards targets st e) (same_give i nothing)))
     law (IoControl st a) u w e = same_only u w (same_then (same_begin set (Some st)) (same_bind _ (same_integer st (law a for_value st e)) (λ n. same_then (same_io_control n) (same_give i nothing))))
@@ -418,9 +419,11 @@ module _ (set : Setting) (later : environments.Job → M Bodied state.Given) (la
     law_list no_phrases w x body e = same_give i tt
     law_list (phrase_and a rest) w x body e = same_bind _ (same_integer w (law a for_value w e)) (λ n. same_then (same_holding w (same_then (same_tick set w) (hl (environments.list_job w x n body e)))) (law_list rest w x body e))
 
-    law_writes : (ps : Phrases) (w : Place) (first : Bool) (e : Env) → Same i (environments.go_writes set later ps w first e) (copying.go_writes set later' (phrases_shape ps) w first (with_phrases (put_by e) ps))
-    law_writes no_phrases w first e = same_give i tt
-    law_writes (phrase_and a rest) w first e = same_bind _ (same_value w (law a for_value w e)) (λ v. same_then (same_written set w first v) (law_writes rest w false e))
+    law_writes : (ps : Phrases) (w : Place) (first : Bool) (ws : WidthsSet) (roles : List Role) (e : Env) → Same i (environments.go_writes set later ps w first ws roles e) (copying.go_writes set later' (phrases_shape ps) w first ws roles (with_phrases (put_by e) ps))
+    law_writes no_phrases w first ws roles e = same_give i tt
+    law_writes (phrase_and a rest) w first ws [] e = same_halt i wrong w
+    law_writes (phrase_and a rest) w first ws (placed ∷ roles) e = same_bind _ (same_value w (law a for_value w e)) (λ v. same_then (same_written set w first ws v) (law_writes rest w false ws roles e))
+    law_writes (phrase_and a rest) w first ws (sets k ∷ roles) e = same_bind _ (same_integer w (law a for_value w e)) (λ n. law_writes rest w first (with_width k n ws) roles e)
 
     law_reads : (ps : Targets) (w : Place) (next : Bool) (e : Env) → Same i (environments.go_reads set later ps w next e) (copying.go_reads set later' (targets_shape ps) w next (with_targets (put_by e) ps))
     law_reads no_targets w next e = same_give i tt

@@ -68,7 +68,7 @@ mutual
       let l = with_with body (kept xs f) (kept xs g) (kept xs h) (fit_kept xs f g h t) in cc
   with_with (Goto st a) f g h t = ap (Goto st) (with_with a f g h t)
   with_with (Assert st a) f g h t = ap (Assert st) (with_with a f g h t)
-  with_with (Write st first values) f g h t = ap (Write st first) (with_with_phrases values f g h t)
+  with_with (Write st first roles values) f g h t = ap (Write st first roles) (with_with_phrases values f g h t)
   with_with (Read st next ts) f g h t = ap (Read st next) (with_with_targets ts f g h t)
   with_with (ReadCard st ts) f g h t = ap (ReadCard st) (with_with_targets ts f g h t)
   with_with (IoControl st a) f g h t = ap (IoControl st) (with_with a f g h t)
@@ -216,7 +216,7 @@ mutual
   same_shape (ForList st x values body) f h = ap one (same_phrases_shape values f h)
   same_shape (Goto st a) f h = refl
   same_shape (Assert st a) f h = ap one (same_shape a f h)
-  same_shape (Write st first values) f h = ap one (same_phrases_shape values f h)
+  same_shape (Write st first roles values) f h = ap one (same_phrases_shape values f h)
   same_shape (Read st next ts) f h = ap one (same_targets_shape ts f h)
   same_shape (ReadCard st ts) f h = ap one (same_targets_shape ts f h)
   same_shape (IoControl st a) f h = ap one (same_shape a f h)
@@ -295,7 +295,7 @@ mutual
   with_none (ForList st x values body) f h = let e = with_none_phrases values f h in let l = with_none body (kept (x.place ∷ []) f) (stays_kept (x.place ∷ []) f h) in cc
   with_none (Goto st a) f h = ap (Goto st) (with_none a f h)
   with_none (Assert st a) f h = ap (Assert st) (with_none a f h)
-  with_none (Write st first values) f h = ap (Write st first) (with_none_phrases values f h)
+  with_none (Write st first roles values) f h = ap (Write st first roles) (with_none_phrases values f h)
   with_none (Read st next ts) f h = ap (Read st next) (with_none_targets ts f h)
   with_none (ReadCard st ts) f h = ap (ReadCard st) (with_none_targets ts f h)
   with_none (IoControl st a) f h = ap (IoControl st) (with_none a f h)

@@ -10,15 +10,17 @@ use Rattle.value_ops.specs.declared.values.Value.TheVariants as value
 use Rattle.value_ops.specs.declared.values.RecordId.{RecordId}
 use Rattle.value_ops.specs.declared.values.SimpleType.{SimpleType}
 use Rattle.value_ops.specs.Strings.{with_part}
+use Rattle.algolw_tree.specs.declared.standard.Width.{Width}
+use Rattle.algolw_tree.specs.declared.standard.Width.TheVariants.{Columns, Blanks}
 use Rattle.algolw_typing.specs.Types.{ValueType, Integer, Logical, Bits, Str, Reference, has}
 use Rattle.output_editing.specs.Layout.{Piece, Break, lay}
-use Rattle.output_editing.specs.Written.{written_first, written_on}
 use Rattle.input_editing.specs.Columns.{card_end, card_read, read_from}
 use Rattle.input_editing.specs.Scanning.{scanned}
 use Rattle.program_meaning.specs.Phrases.{Name, Actuals, no_actuals, actual_and}
 use Rattle.program_meaning.specs.Operations.{Answer, gives, faults, misfits}
 use Rattle.program_meaning.specs.State.{State, Outcome, on, jump, stop, M, Setting, Why, wrong, Entry, ShownName, Use, for_value, for_place, Given, nothing, a_value, a_spot, Spot, whole, within, ArrayInfo, RecordInfo, after, ◌>>=◌, ◌>>◌, give, halt, fault_at, test, tick, note_begun, begin, take_cells, give_back, holding, push_entry, pop_entry, under, deeper, shallower, entered, show, value_in, value_of, spot_in, spot_of, integer_in, integer_of, truth_in, truth_of, string_in, record_in, answer_at, only_value, defined, look, put, variable, new, record_at, the_record, made, made_result, characters, string_held, put_string, store, assign, array_at, the_array, all_within, subscripted, offset, elements, element_of, make_array, make_record, is_place_of, field_of, is_of_class, spot_within, string_answer, print, put_pieces, within_lines, read_so_far, set_read, scan_answer, Made, back_to, is_own, caught, catching, cells_held, set_cells, made_here, most_cells, most_depth, most_records, most_fields}
-use Rattle.program_meaning.specs.Copying.{Closed, free, shown, declare_variables, declare_arrays, no_actuals_given, value_held, scan, string_read, take_card, io_control, value_written}
+use Rattle.program_meaning.specs.Copying.{Closed, free, shown, declare_variables, declare_arrays, no_actuals_given, value_held, scan, string_read, take_card, io_control}
+use Rattle.program_meaning.specs.Widths.{WidthsSet, variable_of, width_now, may_be_placed, widths_of, pieces_of, value_placed, value_written}
 use Rattle.program_meaning.specs.State as state
 use Rattle.program_meaning.specs.Environments.{Bodied}
 use Rattle.program_meaning.specs.Closing.{closed_state, closed_outcome}
@@ -343,9 +345,15 @@ pub same_io_control : (n : ℤ) → Same i (io_control n) (io_control n)
 same_io_control (pos n) = same_test (nat_eq n 1) (same_bind _ same_read_so_far (λ k. same_set_read (card_end k))) (same_test (nat_eq n 2) (same_print (Break ∷ [])) (same_give i tt))
 same_io_control (negsuc n) = same_give i tt
 
-pub same_written : (set : Setting) (w : Place) (first : Bool) (v : Value) → Same i (value_written set w first v) (value_written set w first v)
-same_written set w true v = same_put_pieces set w (written_first v)
-same_written set w false v = same_put_pieces set w (written_on v)
+same_width : (w : Place) (k : Width) (o : Option ℤ) → Same i (width_now w k o) (width_now w k o)
+same_width w k (Some n) = same_give i n
+same_width w k None = same_bind _ (same_look w (variable_of k)) (λ v. same_integer_in w v)
+
+same_placed : (set : Setting) (w : Place) (first : Bool) (v : Value) (columns blanks : ℤ) → Same i (value_placed set w first v columns blanks) (value_placed set w first v columns blanks)
+same_placed set w first v columns blanks = same_test (may_be_placed v columns blanks) (same_put_pieces set w (pieces_of first v (widths_of columns blanks))) (same_fault i fault.WidthOutOfRange w)
+
+pub same_written : (set : Setting) (w : Place) (first : Bool) (ws : WidthsSet) (v : Value) → Same i (value_written set w first ws v) (value_written set w first ws v)
+same_written set w first ws v = same_bind _ (same_width w Columns ws.columns) (λ columns. same_bind _ (same_width w Blanks ws.blanks) (λ blanks. same_placed set w first v columns blanks))
 
 -- ---- blocks and calls
 

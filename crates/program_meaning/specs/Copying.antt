@@ -15,13 +15,13 @@ use Rattle.algolw_typing.specs.Meanings as typing
 use Rattle.algolw_typing.specs.Meanings.{FormalType, by_name, by_value, by_result, by_value_result, for_array, for_procedure, gives_of}
 use Rattle.algolw_typing.specs.Actuals.{actuals_fit, procedure_name, wants_procedure}
 use Rattle.output_editing.specs.Layout.{Break}
-use Rattle.output_editing.specs.Written.{written_first, written_on}
 use Rattle.input_editing.specs.Columns.{card_end, card_read, read_from}
 use Rattle.input_editing.specs.Scanning.{scanned}
-use Rattle.program_meaning.specs.Phrases.{Phrase, Empty, Constant, Named, Variable, Array, Label, Procedure, Copied, Unary, Binary, Relation, IsClass, Element, Field, Part, Record, RecordAlone, IfThen, Case, Block, Call, Assign, WhileDo, ForStep, ForList, Goto, Assert, Write, Read, ReadCard, IoControl, Phrases, no_phrases, phrase_and, Targets, no_targets, target_and, Subscripts, no_subscripts, star_and, subscript_and, Actuals, no_actuals, actual_and, Actual, Given, Alone, Subarray, Items, no_items, item_and, Bounds, no_bounds, bound_and, Decls, no_decls, variables_and, arrays_and, procedure_and, Name, Formal, Mark, Shape, leaf, one, two, three, shape, items_shape, with, with_items, kept, formal_places, label_places}
+use Rattle.program_meaning.specs.Phrases.{Phrase, Empty, Constant, Named, Variable, Array, Label, Procedure, Copied, Unary, Binary, Relation, IsClass, Element, Field, Part, Record, RecordAlone, IfThen, Case, Block, Call, Assign, WhileDo, ForStep, ForList, Goto, Assert, Write, Read, ReadCard, IoControl, Phrases, no_phrases, phrase_and, Targets, no_targets, target_and, Subscripts, no_subscripts, star_and, subscript_and, Actuals, no_actuals, actual_and, Actual, Given, Alone, Subarray, Items, no_items, item_and, Bounds, no_bounds, bound_and, Decls, no_decls, variables_and, arrays_and, procedure_and, Name, Formal, Mark, Shape, leaf, one, two, three, shape, items_shape, with, with_items, kept, formal_places, label_places, Role, placed, sets}
 use Rattle.program_meaning.specs.Operations.{unary, binary, relation}
 use Rattle.program_meaning.specs.State as state
-use Rattle.program_meaning.specs.State.{M, State, Outcome, on, jump, stop, Setting, Use, for_value, for_place, nothing, a_value, a_spot, Spot, wrong, unfinished, ArrayInfo, Held, a_variable, an_array, a_number, a_procedure, ShownName, in_block, in_call, in_actual, in_turn, ◌>>=◌, ◌>>◌, give, halt, fault_at, test, tick, begin, innermost, take_cells, give_back, holding, push_entry, pop_entry, deeper, shallower, under, entered, show, value_of, spot_of, integer_of, truth_of, string_in, record_in, answer_at, only_value, variable, look, new, made, made_result, assign, the_array, filled_in, subscripted, element_of, make_array, make_record, field_of, is_of_class, spot_within, string_answer, print, put_pieces, read_so_far, set_read, scan_answer, Made, catching, cells_held, set_cells, made_here, for_an_array}
+use Rattle.program_meaning.specs.State.{M, State, Outcome, on, jump, stop, Setting, Use, for_value, for_place, nothing, a_value, a_spot, Spot, wrong, unfinished, ArrayInfo, Held, a_variable, an_array, a_number, a_procedure, ShownName, in_block, in_call, in_actual, in_turn, ◌>>=◌, ◌>>◌, give, halt, fault_at, test, tick, begin, innermost, take_cells, give_back, holding, push_entry, pop_entry, deeper, shallower, under, entered, show, value_of, spot_of, integer_of, truth_of, string_in, record_in, answer_at, only_value, variable, look, new, made, made_result, assign, the_array, filled_in, subscripted, element_of, make_array, make_record, field_of, is_of_class, spot_within, string_answer, print, read_so_far, set_read, scan_answer, Made, catching, cells_held, set_cells, made_here, for_an_array}
+use Rattle.program_meaning.specs.Widths.{WidthsSet, none_set, with_width, value_written}
 
 -- a procedure in which every name but its formals is replaced, and the innermost statement round its declaration
 pub record Closed : Type 0 where
@@ -324,10 +324,6 @@ abbrev pub io_control : {P : Type 0} → ℤ → M P (Unit {0})
 io_control (pos n) = test (nat_eq n 1) (read_so_far >>= λ k. set_read (card_end k)) (test (nat_eq n 2) (print (Break ∷ [])) (give tt))
 io_control (negsuc n) = give tt
 
-abbrev pub value_written : {P : Type 0} → Setting → Place → Bool → Value → M P (Unit {0})
-value_written set w true v = put_pieces set w (written_first v)
-value_written set w false v = put_pieces set w (written_on v)
-
 -- a statement gives nothing; an assignment that is the right side of another gives its value
 abbrev pub assigned : Option Place → Value → state.Given
 assigned None v = a_value v
@@ -433,7 +429,7 @@ module _ (set : Setting) (later : Job → M Closed state.Given) where
     go (one x) u w (ForList st name values body) = only_value u w (begin set (Some st) >> (go_list x st name values body >> give nothing))
     go leaf u w (Goto st a) = begin set (Some st) >> went st a
     go (one x) u w (Assert st c) = only_value u w (begin set (Some st) >> (truth_of st (go x for_value st c) >>= λ truth. test truth (give nothing) (fault_at fault.AssertionFalse st)))
-    go (one x) u w (Write st first values) = only_value u w (begin set (Some st) >> (go_writes x st first values >> give nothing))
+    go (one x) u w (Write st first roles values) = only_value u w (begin set (Some st) >> (go_writes x st first none_set roles values >> give nothing))
     go (one x) u w (Read st next targets) = only_value u w (begin set (Some st) >> (go_reads x st next targets >> give nothing))
     go (one x) u w (ReadCard st targets) = only_value u w (begin set (Some st) >> (go_cards x st targets >> give nothing))
     go (one x) u w (IoControl st a) = only_value u w (begin set (Some st) >> (integer_of st (go x for_value st a) >>= λ i. io_control i >> give nothing))
@@ -465,10 +461,12 @@ module _ (set : Setting) (later : Job → M Closed state.Given) where
     go_list (two x y) w name (phrase_and a rest) body = integer_of w (go x for_value w a) >>= λ i. holding w (tick set w >> later (list_job w name i body)) >> go_list y w name rest body
     go_list x w name rest body = halt wrong w
 
-    pub go_writes : Shape → Place → Bool → Phrases → M Closed (Unit {0})
-    go_writes leaf w first no_phrases = give tt
-    go_writes (two x y) w first (phrase_and a rest) = value_of w (go x for_value w a) >>= λ v. value_written set w first v >> go_writes y w false rest
-    go_writes x w first rest = halt wrong w
+    -- a value is there before the widths by which it is placed
+    pub go_writes : Shape → Place → Bool → WidthsSet → List Role → Phrases → M Closed (Unit {0})
+    go_writes leaf w first ws roles no_phrases = give tt
+    go_writes (two x y) w first ws (placed ∷ roles) (phrase_and a rest) = value_of w (go x for_value w a) >>= λ v. value_written set w first ws v >> go_writes y w false ws roles rest
+    go_writes (two x y) w first ws (sets k ∷ roles) (phrase_and a rest) = integer_of w (go x for_value w a) >>= λ n. go_writes y w first (with_width k n ws) roles rest
+    go_writes x w first ws roles rest = halt wrong w
 
     pub go_reads : Shape → Place → Bool → Targets → M Closed (Unit {0})
     go_reads leaf w next no_targets = give tt

@@ -11,11 +11,12 @@ use Rattle.algolw_typing.specs.Verdicts.{Good}
 use Rattle.algolw_typing.specs.Meanings as typing
 use Rattle.algolw_typing.specs.Meanings.{FormalType, by_name, by_value, by_result, by_value_result, for_array, for_procedure, gives_of}
 use Rattle.algolw_typing.specs.Actuals.{actuals_fit, procedure_name, wants_procedure}
-use Rattle.program_meaning.specs.Phrases.{Phrase, Empty, Constant, Named, Variable, Array, Label, Procedure, Copied, Unary, Binary, Relation, IsClass, Element, Field, Part, Record, RecordAlone, IfThen, Case, Block, Call, Assign, WhileDo, ForStep, ForList, Goto, Assert, Write, Read, ReadCard, IoControl, Phrases, no_phrases, phrase_and, Targets, no_targets, target_and, Subscripts, no_subscripts, star_and, subscript_and, Actuals, no_actuals, actual_and, Actual, Given, Alone, Subarray, Items, no_items, item_and, Bounds, no_bounds, bound_and, Decls, no_decls, variables_and, arrays_and, procedure_and, Name, Formal, Mark, label_places}
+use Rattle.program_meaning.specs.Phrases.{Phrase, Empty, Constant, Named, Variable, Array, Label, Procedure, Copied, Unary, Binary, Relation, IsClass, Element, Field, Part, Record, RecordAlone, IfThen, Case, Block, Call, Assign, WhileDo, ForStep, ForList, Goto, Assert, Write, Read, ReadCard, IoControl, Phrases, no_phrases, phrase_and, Targets, no_targets, target_and, Subscripts, no_subscripts, star_and, subscript_and, Actuals, no_actuals, actual_and, Actual, Given, Alone, Subarray, Items, no_items, item_and, Bounds, no_bounds, bound_and, Decls, no_decls, variables_and, arrays_and, procedure_and, Name, Formal, Mark, label_places, Role, placed, sets}
 use Rattle.program_meaning.specs.Operations.{unary, binary, relation}
 use Rattle.program_meaning.specs.State as state
 use Rattle.program_meaning.specs.State.{M, State, Outcome, on, jump, stop, Setting, Use, for_value, for_place, nothing, a_value, wrong, unfinished, Held, a_variable, an_array, a_number, a_procedure, ShownName, in_block, in_call, in_actual, in_turn, ◌>>=◌, ◌>>◌, give, halt, fault_at, test, tick, begin, innermost, take_cells, give_back, holding, deeper, shallower, under, entered, value_of, spot_of, integer_of, truth_of, string_in, record_in, answer_at, only_value, variable, look, new, made, made_result, assign, the_array, filled_in, subscripted, element_of, make_record, field_of, is_of_class, spot_within, string_answer, Made, catching, cells_held, set_cells, made_here, for_an_array}
-use Rattle.program_meaning.specs.Copying.{dimensions, free, variable_count, array_count, Firsts, firsts, shown, declare_variables, declare_arrays, from, is_variable_of, mark, formal_types, stars, free_of, array_part, actual_count, is_good, no_actuals_given, has_turn, read_type, scan, take_card, io_control, value_written, assigned, case_number, cells_of, value_held}
+use Rattle.program_meaning.specs.Widths.{WidthsSet, none_set, with_width, value_written}
+use Rattle.program_meaning.specs.Copying.{dimensions, free, variable_count, array_count, Firsts, firsts, shown, declare_variables, declare_arrays, from, is_variable_of, mark, formal_types, stars, free_of, array_part, actual_count, is_good, no_actuals_given, has_turn, read_type, scan, take_card, io_control, assigned, case_number, cells_of, value_held}
 
 mutual
   -- a finite list of names, each with what it means; a name means its first entry
@@ -308,7 +309,7 @@ module _ (set : Setting) (later : Job → M Bodied state.Given) where
     go (ForList st name values body) u w e = only_value u w (begin set (Some st) >> (go_list values st name body e >> give nothing))
     go (Goto st a) u w e = begin set (Some st) >> went st (head e a)
     go (Assert st c) u w e = only_value u w (begin set (Some st) >> (truth_of st (go c for_value st e) >>= λ truth. test truth (give nothing) (fault_at fault.AssertionFalse st)))
-    go (Write st first values) u w e = only_value u w (begin set (Some st) >> (go_writes values st first e >> give nothing))
+    go (Write st first roles values) u w e = only_value u w (begin set (Some st) >> (go_writes values st first none_set roles e >> give nothing))
     go (Read st next targets) u w e = only_value u w (begin set (Some st) >> (go_reads targets st next e >> give nothing))
     go (ReadCard st targets) u w e = only_value u w (begin set (Some st) >> (go_cards targets st e >> give nothing))
     go (IoControl st a) u w e = only_value u w (begin set (Some st) >> (integer_of st (go a for_value st e) >>= λ i. io_control i >> give nothing))
@@ -332,9 +333,11 @@ module _ (set : Setting) (later : Job → M Bodied state.Given) where
     go_list no_phrases w name body e = give tt
     go_list (phrase_and a rest) w name body e = integer_of w (go a for_value w e) >>= λ i. holding w (tick set w >> later (list_job w name i body e)) >> go_list rest w name body e
 
-    pub go_writes : Phrases → Place → Bool → Env → M Bodied (Unit {0})
-    go_writes no_phrases w first e = give tt
-    go_writes (phrase_and a rest) w first e = value_of w (go a for_value w e) >>= λ v. value_written set w first v >> go_writes rest w false e
+    pub go_writes : Phrases → Place → Bool → WidthsSet → List Role → Env → M Bodied (Unit {0})
+    go_writes no_phrases w first ws roles e = give tt
+    go_writes (phrase_and a rest) w first ws [] e = halt wrong w
+    go_writes (phrase_and a rest) w first ws (placed ∷ roles) e = value_of w (go a for_value w e) >>= λ v. value_written set w first ws v >> go_writes rest w false ws roles e
+    go_writes (phrase_and a rest) w first ws (sets k ∷ roles) e = integer_of w (go a for_value w e) >>= λ n. go_writes rest w first (with_width k n ws) roles e
 
     pub go_reads : Targets → Place → Bool → Env → M Bodied (Unit {0})
     go_reads no_targets w next e = give tt

@@ -2,6 +2,7 @@ pub mod Phrases
 pub mod Translating
 pub mod Operations
 pub mod State
+pub mod Widths
 pub mod Copying
 pub mod Environments
 pub mod Closing

@@ -5,6 +5,7 @@ use Rattle.value_ops.specs.declared.values.Value.{Value}
 use Rattle.algolw_tree.specs.declared.phrases.Op.{Op}
 use Rattle.algolw_tree.specs.declared.phrases.RelOp.{RelOp}
 use Rattle.algolw_tree.specs.declared.standard.UnaryOp.{UnaryOp}
+use Rattle.algolw_tree.specs.declared.standard.Width.{Width}
 use Rattle.algolw_typing.specs.Types.{ValueType, Gives, has}
 use Rattle.algolw_typing.specs.Meanings.{FormalType}
 
@@ -25,6 +26,11 @@ pub record Mark : Type 0 where
   pub is_variable : Bool
   pub statement : Place
   pub first : Place
+
+-- what a part of WRITE is for: its value is placed, or it sets a width for the parts behind it
+pub data Role : Type 0 where
+  placed : Role
+  sets : Width → Role
 
 mutual
   pub data Phrase : Type 0 where
@@ -63,8 +69,8 @@ mutual
     ForList : Place → Name → Phrases → Phrase → Phrase
     Goto : Place → Phrase → Phrase
     Assert : Place → Phrase → Phrase
-    -- WRITE begins a line, WRITEON doesn't
-    Write : Place → Bool → Phrases → Phrase
+    -- WRITE begins a line, WRITEON doesn't; each part has its role
+    Write : Place → Bool → List Role → Phrases → Phrase
     -- READ begins with the next card, READON doesn't
     Read : Place → Bool → Targets → Phrase
     ReadCard : Place → Targets → Phrase
@@ -167,7 +173,7 @@ abbrev mutual
   with f (ForList st x values body) = ForList st x (with_phrases f values) (with (kept (x.place ∷ []) f) body)
   with f (Goto st a) = Goto st (with f a)
   with f (Assert st c) = Assert st (with f c)
-  with f (Write st first values) = Write st first (with_phrases f values)
+  with f (Write st first roles values) = Write st first roles (with_phrases f values)
   with f (Read st next targets) = Read st next (with_targets f targets)
   with f (ReadCard st targets) = ReadCard st (with_targets f targets)
   with f (IoControl st a) = IoControl st (with f a)
@@ -238,7 +244,7 @@ abbrev mutual
   shape (ForStep st x a b c body) = three (shape a) (shape b) (shape c)
   shape (ForList st x values body) = one (phrases_shape values)
   shape (Assert st c) = one (shape c)
-  shape (Write st first values) = one (phrases_shape values)
+  shape (Write st first roles values) = one (phrases_shape values)
   shape (Read st next targets) = one (targets_shape targets)
   shape (ReadCard st targets) = one (targets_shape targets)
   shape (IoControl st a) = one (shape a)

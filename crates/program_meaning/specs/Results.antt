@@ -1,5 +1,5 @@
 -- What a run gives: its ending, what it printed, its counts, and what is shown of it when it doesn't end normally.
-use Rattle.std.specs.Prelude.{ℕ, suc, ℤ, List, [], ◌∷◌, ◌++◌, map, length, take, decimal, codes, Option, Some, None, true, false, slice_get}
+use Rattle.std.specs.Prelude.{ℕ, suc, ℤ, pos, List, [], ◌∷◌, ◌++◌, map, length, take, decimal, codes, Option, Some, None, true, false, slice_get}
 use Rattle.value_ops.specs.declared.places.Place.{Place}
 use Rattle.value_ops.specs.declared.values.RecordId.{RecordId}
 use Rattle.value_ops.specs.declared.values.Value.{Value}
@@ -16,9 +16,9 @@ use Rattle.program_meaning.specs.Phrases.{Phrase}
 use Rattle.program_meaning.specs.State.{State, Outcome, on, jump, stop, Setting, Why, by_fault, by_limit, wrong, unfinished, for_value, Given, ArrayInfo, RecordInfo, Held, a_variable, an_array, a_number, by_name, a_procedure, ShownName, Entry, in_block, in_call, in_actual, in_turn}
 use Rattle.program_meaning.specs.Copying.{Closed, phrase_job, run}
 
--- nothing is held
+-- nothing is held but the two standard variables
 abbrev pub initial : {P : Type 0} → State P
-initial = record { memory = []; arrays = []; procedures = []; labels = 0; records = []; fields = 0; data_read = 0; pieces = []; begun = []; steps = 0; cells = 0; depth = 0; active = [] }
+initial = record { memory = Some (value.Integer (pos 14)) ∷ Some (value.Integer (pos 2)) ∷ []; arrays = []; procedures = []; labels = 0; records = []; fields = 0; data_read = 0; pieces = []; begun = []; steps = 0; cells = 0; depth = 0; active = [] }
 
 abbrev pub nowhere : Place
 nowhere = record { card = 0; column = 0 }

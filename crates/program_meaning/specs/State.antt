@@ -51,7 +51,7 @@ pub data Entry : Type 0 where
 
 -- P is the form in which procedures are kept
 pub record State (P : Type 0) : Type 0 where
-  -- variables, array elements and fields, by number
+  -- the standard variables, and behind them variables, array elements and fields, by number
   pub memory : List (Option Value)
   -- an array that isn't made yet has no bounds
   pub arrays : List (Option ArrayInfo)

@@ -17,7 +17,8 @@ use Rattle.algolw_typing.specs.Typed as typed
 use Rattle.algolw_typing.specs.Typed.{At}
 use Rattle.algolw_typing.specs.Programs.{TypedProgram}
 use Rattle.program_meaning.specs.Phrases as phrase
-use Rattle.program_meaning.specs.Phrases.{Phrase, Constant, Named, Unary, Binary, Element, Field, Part, Record, RecordAlone, IfThen, Block, Call, Phrases, no_phrases, phrase_and, Targets, no_targets, target_and, Subscripts, no_subscripts, star_and, subscript_and, Actuals, no_actuals, actual_and, Actual, Given, Alone, Subarray, Items, no_items, item_and, Bounds, no_bounds, bound_and, Decls, no_decls, variables_and, arrays_and, procedure_and, Name, Formal}
+use Rattle.program_meaning.specs.Widths.{variable_of}
+use Rattle.program_meaning.specs.Phrases.{Phrase, Role, placed, sets, Constant, Named, Variable, Unary, Binary, Element, Field, Part, Record, RecordAlone, IfThen, Block, Call, Phrases, no_phrases, phrase_and, Targets, no_targets, target_and, Subscripts, no_subscripts, star_and, subscript_and, Actuals, no_actuals, actual_and, Actual, Given, Alone, Subarray, Items, no_items, item_and, Bounds, no_bounds, bound_and, Decls, no_decls, variables_and, arrays_and, procedure_and, Name, Formal}
 
 -- what a name stands for
 pub data Declared : Type 0 where
@@ -162,12 +163,39 @@ abbrev pub is_variable : Declared → Bool
 is_variable (a_variable t) = true
 is_variable (an_array t) = true
 is_variable (a_field class n t) = true
+is_variable (a_standard_name (standard.Variable width)) = true
 is_variable _ = false
 
 -- a name of a variable, an array or a field, with whatever lists; the phrase has a type
 abbrev pub is_variable_node : Context → typed.Node → Bool
 is_variable_node c (At p first g st (typed.Named x lists)) = is_variable (declared_at c.known x)
 is_variable_node c _ = false
+
+-- what a part of WRITE is for, by what it gives and is: a statement there sets a width
+abbrev pub width_role : Declared → Role
+width_role (a_standard_name (standard.Variable width)) = sets width
+width_role d = placed
+
+abbrev pub left_role : List Known → typed.Node → Role
+left_role known (At p first g st (typed.Named x lists)) = width_role (declared_at known x)
+left_role known a = placed
+
+abbrev pub kind_role : List Known → Option Gives → typed.Kind → Role
+kind_role known (Some Statement) (typed.Assign a b) = left_role known a
+kind_role known g k = placed
+
+abbrev pub role_of : List Known → typed.Node → Role
+role_of known (At p first g st k) = kind_role known g k
+
+abbrev pub roles_of : List Known → typed.Actuals → List Role
+roles_of known typed.no_actuals = []
+roles_of known (typed.actual_and (typed.Star q) rest) = roles_of known rest
+roles_of known (typed.actual_and (typed.Given a) rest) = role_of known a ∷ roles_of known rest
+
+-- the value of a part: of a setting it is the right part
+abbrev pub value_part : Role → Phrase → Phrase
+value_part (sets width) (phrase.Assign st t a b) = b
+value_part role a = a
 
 -- ---- operators
 
@@ -253,11 +281,12 @@ abbrev mutual
   named_of c p first st x (a_class types) lists = RecordAlone (name_at c x) (number_of types)
   named_of c p first st x (a_field class n t) (typed.list_and (typed.OfActuals q given) rest) = parts_of c (length_of t) (Field class n (first_of (given_of c given))) rest
   named_of c p first st x (a_standard_name (standard.Function op)) (typed.list_and (typed.OfActuals q given) rest) = parts_of c 1 (Unary op (first_of (given_of c given))) rest
-  named_of c p first st x (a_standard_name (standard.Write on)) (typed.list_and (typed.OfActuals q values) rest) = phrase.Write (statement_at first st) on (given_of c values)
+  named_of c p first st x (a_standard_name (standard.Write on)) (typed.list_and (typed.OfActuals q values) rest) = phrase.Write (statement_at first st) on (roles_of c.known values) (written_of c values)
   named_of c p first st x (a_standard_name (standard.Read on)) (typed.list_and (typed.OfActuals q targets) rest) = phrase.Read (statement_at first st) on (targets_of c targets)
   named_of c p first st x (a_standard_name standard.ReadCard) (typed.list_and (typed.OfActuals q targets) rest) = phrase.ReadCard (statement_at first st) (targets_of c targets)
   named_of c p first st x (a_standard_name standard.IoControl) (typed.list_and (typed.OfActuals q given) rest) = phrase.IoControl (statement_at first st) (first_of (given_of c given))
   named_of c p first st x (a_standard_name standard.MaxInteger) lists = Constant (value.Integer (pos 2147483647))
+  named_of c p first st x (a_standard_name (standard.Variable width)) lists = Variable (variable_of width)
   named_of c p first st x d lists = Named x
 
   -- substring lists behind a string of m characters
@@ -270,6 +299,12 @@ abbrev mutual
   given_of c typed.no_actuals = no_phrases
   given_of c (typed.actual_and (typed.Star q) rest) = given_of c rest
   given_of c (typed.actual_and (typed.Given a) rest) = phrase_and (phrase_of c a) (given_of c rest)
+
+  -- the values of the parts of WRITE
+  pub written_of : Context → typed.Actuals → Phrases
+  written_of c typed.no_actuals = no_phrases
+  written_of c (typed.actual_and (typed.Star q) rest) = written_of c rest
+  written_of c (typed.actual_and (typed.Given a) rest) = phrase_and (value_part (role_of c.known a) (phrase_of c a)) (written_of c rest)
 
   pub targets_of : Context → typed.Actuals → Targets
   targets_of c typed.no_actuals = no_targets

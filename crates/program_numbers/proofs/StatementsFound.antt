@@ -9,11 +9,11 @@ use Rattle.algolw_typing.specs.Scopes.{Known, Scopes, control_scope, formal_scop
 use Rattle.algolw_typing.specs.Faults.{typed_program}
 use Rattle.algolw_typing.specs.Typed as typed
 use Rattle.algolw_typing.specs.Types.{Gives, Statement, ValueType}
-use Rattle.algolw_typing.specs.Typing.{as_verdict, first_list, given, gives, item_verdict, link_verdict, list_verdict, meaning_of, meanings, more_lists, part_verdict, reading_of, target, then_item, typed_bounds, typed_decl, typed_decls, typed_formals, typed_groups, typed_items, typed_kind, typed_links, typed_parts, typed_phrase, typed_phrases, uncounted, use_as_base, use_with_list}
+use Rattle.algolw_typing.specs.Typing.{as_verdict, first_list, given, gives, is_setting, item_verdict, link_verdict, list_verdict, meaning_of, meanings, more_lists, part_verdict, reading_of, target, then_item, typed_bounds, typed_decl, typed_decls, typed_formals, typed_groups, typed_items, typed_kind, typed_links, typed_parts, typed_phrase, typed_phrases, uncounted, use_as_base, use_with_list}
 use Rattle.algolw_typing.specs.Verdicts.{Verdict, Good}
 use Rattle.typed_findings.specs.Findings.{Found, Phrase, Name, as_type, counted_places, formals_found, found_of, found_of_actuals, found_of_bounds, found_of_decl, found_of_decls, found_of_items, found_of_kind, found_of_links, found_of_lists, found_of_nodes, groups_found}
 use Rattle.program_numbers.proofs.PlacesAlike.{Alike, alike_sorted, alike_both, alike_front}
-use Rattle.program_numbers.proofs.TakenBack.{IsFull, IsFullKind, found_full, kind_full, kind_of, list_either, name_either, node_is}
+use Rattle.program_numbers.proofs.TakenBack.{IsFull, IsFullKind, found_full, kind_full, kind_of, list_either, name_either, node_is, setting_either}
 
 -- ---- what is found in two parts
 
@@ -96,6 +96,9 @@ given_found path w p f (tree.Named x (tree.list_and (tree.OfActuals q actuals) t
     let k : tree.Kind = tree.Named x (tree.list_and (tree.OfActuals q actuals) tree.no_lists) in
     list_either NodeFinds p w (meaning_of (declared path x)) (typed_kind path p f k) (full_found path p f k tt h) (at_found p f None None (kind_of path p f k) tt h)
 given_found path w p f (tree.Named x lists) h = full_found path p f (tree.Named x lists) tt h
+given_found path w p f (tree.Assign a b) h =
+    let k : tree.Kind = tree.Assign a b in
+    setting_either NodeFinds (is_setting path w a b) (typed_kind path p f k) (full_found path p f k tt h) (right_found path p f k h)
 given_found path w p f k h = whole_found path p f k h
 
 -- ---- phrases, part by part

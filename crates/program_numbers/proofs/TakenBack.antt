@@ -10,7 +10,7 @@ use Rattle.algolw_typing.specs.Names.{Entry, declared}
 use Rattle.algolw_typing.specs.Scopes.{Known, Scopes, control_scope, formal_scope, label_entries, names_of_block, result_type, spec_type, standard_scope}
 use Rattle.algolw_typing.specs.Typed as typed
 use Rattle.algolw_typing.specs.Types.{Gives, Statement, ValueType}
-use Rattle.algolw_typing.specs.Typing.{Out, PartOut, array_given, as_verdict, declare_at, declares_at, first_list, given, gives, item_verdict, link_verdict, list_given, list_verdict, meaning_of, meanings, more_lists, name_given, part_verdict, parts_of_kind, phrase_given, read_as, reading_of, subarray_given, target, then_item, typed_bounds, typed_decl, typed_decls, typed_formals, typed_groups, typed_items, typed_kind, typed_links, typed_parts, typed_phrase, typed_phrases, uncounted, use_as_base, use_with_list}
+use Rattle.algolw_typing.specs.Typing.{Out, PartOut, array_given, as_verdict, declare_at, declares_at, first_list, given, gives, is_setting, item_verdict, link_verdict, list_given, list_verdict, meaning_of, meanings, more_lists, name_given, part_verdict, parts_of_kind, phrase_given, read_as, reading_of, setting_given, subarray_given, target, then_item, typed_bounds, typed_decl, typed_decls, typed_formals, typed_groups, typed_items, typed_kind, typed_links, typed_parts, typed_phrase, typed_phrases, uncounted, use_as_base, use_with_list}
 use Rattle.algolw_typing.specs.Verdicts.{Verdict, Good}
 use Rattle.typed_findings.specs.Findings.{Found, Phrase, Name, as_type, formals_found, found_of, found_of_actuals, found_of_bounds, found_of_decl, found_of_decls, found_of_items, found_of_kind, found_of_links, found_of_lists, found_of_nodes, gives_of, groups_found, statement_of}
 use Rattle.typed_findings.specs.Taking.{first_found, name_of, rest_found, type_of}
@@ -110,6 +110,10 @@ pub list_either : (P : typed.Node → Type 0) (p : Place) (w : Wanted) (m : Opti
 list_either P p w (Some (an_array t n)) o own none = array_either P p w t n (parts_of_kind (typed.kind o.node)) o own none
 list_either P p w m o own none = own
 
+pub setting_either : (P : typed.Node → Type 0) (is_set : Bool) (o : Out) → P o.node → P (uncounted o.node) → P (elim is_set as (λ _. PartOut) [ true ↦ setting_given o | false ↦ phrase_given false o ]).node
+setting_either P true o counted set = set
+setting_either P false o counted set = counted
+
 given_back : (path : Scopes) (w : Wanted) (p f : Place) (k : tree.Kind) → KindIsTaken p k (kind_of path p f k) → IsTaken (tree.At p f k) (given path w (tree.At p f k) (typed_kind path p f k)).node
 given_back path w p f (tree.Named x tree.no_lists) kind =
     let k : tree.Kind = tree.Named x tree.no_lists in
@@ -118,6 +122,9 @@ given_back path w p f (tree.Named x (tree.list_and (tree.OfActuals q actuals) tr
     let k : tree.Kind = tree.Named x (tree.list_and (tree.OfActuals q actuals) tree.no_lists) in
     list_either (IsTaken (tree.At p f k)) p w (meaning_of (declared path x)) (typed_kind path p f k) (full_back path p f k tt kind) (at_back path p f k None None tt kind)
 given_back path w p f (tree.Named x lists) kind = full_back path p f (tree.Named x lists) tt kind
+given_back path w p f (tree.Assign a b) kind =
+    let k : tree.Kind = tree.Assign a b in
+    setting_either (IsTaken (tree.At p f k)) (is_setting path w a b) (typed_kind path p f k) (full_back path p f k tt kind) (right_back path p f k kind)
 given_back path w p f k kind = whole_back path p f k kind
 
 -- ---- declarations without phrases

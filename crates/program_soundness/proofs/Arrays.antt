@@ -105,6 +105,7 @@ module _ (table : Table) where
       let info : ArrayInfo = record { type = t; bounds = bounds; first = length s.memory } in
       record {
         memory_count = m.memory_count;
+        standard = m.standard;
         arrays_count = length_set s.arrays k (Some info) ∙ m.arrays_count;
         cells = m.cells;
         infos = each_set (InfoSuits table V) W.arrays s.arrays k (Some info) m.infos (λ a q. placed V a (sym e ∙ q) (λ i b. subst (λ n. slice_get V.memory (n + i) ≡ Some (kind_of t)) (sym h.memory_count) (get_behind W.memory kinds i ∙ get_same (elements bounds) i (kind_of t) b)));

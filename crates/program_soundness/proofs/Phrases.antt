@@ -17,12 +17,13 @@ use Rattle.input_editing.specs.Columns.{columns, line_at, is_on_card, card_end, 
 use Rattle.input_editing.specs.Scanning.{integer_of, logical_of, bits_of, string_at, word, item_at, item_start, placed, scanned}
 use Rattle.algolw_typing.specs.Types.{ValueType, Gives, Statement, Simple, Integer, Logical, Bits, Str, Reference}
 use Rattle.algolw_typing.specs.Meanings.{FormalType, by_name, by_value, by_result, by_value_result, for_array, for_procedure}
-use Rattle.program_meaning.specs.Phrases.{Phrase, Empty, Constant, Named, Variable, Array, Label, Procedure, Copied, Unary, Binary, Relation, IsClass, Element, Field, Part, Record, RecordAlone, IfThen, Case, Block, Call, Assign, WhileDo, ForStep, ForList, Goto, Assert, Write, Read, ReadCard, IoControl, Phrases, no_phrases, phrase_and, Targets, no_targets, target_and, Subscripts, no_subscripts, star_and, subscript_and, Actuals, no_actuals, actual_and, Actual, Given, Alone, Subarray, Items, no_items, item_and, Bounds, no_bounds, bound_and, Decls, no_decls, variables_and, arrays_and, procedure_and, Name, Formal}
+use Rattle.program_meaning.specs.Phrases.{Phrase, Empty, Constant, Named, Variable, Array, Label, Procedure, Copied, Unary, Binary, Relation, IsClass, Element, Field, Part, Record, RecordAlone, IfThen, Case, Block, Call, Assign, WhileDo, ForStep, ForList, Goto, Assert, Write, Read, ReadCard, IoControl, Phrases, no_phrases, phrase_and, Targets, no_targets, target_and, Subscripts, no_subscripts, star_and, subscript_and, Actuals, no_actuals, actual_and, Actual, Given, Alone, Subarray, Items, no_items, item_and, Bounds, no_bounds, bound_and, Decls, no_decls, variables_and, arrays_and, procedure_and, Name, Formal, Role, placed as a_value_placed, sets}
 use Rattle.program_meaning.specs.State as state
 use Rattle.program_meaning.specs.State.{M, Setting, Use, for_value, for_place, nothing, a_number, in_turn, ◌>>=◌, ◌>>◌, give, halt, fault_at, test, innermost, only_value}
 use Rattle.program_meaning.specs.Copying.{formal_types, dimensions, array_count, declare_arrays, free, free_of, stars, assigned, case_number, has_turn, read_type, scan, take_card, string_read}
 use Rattle.program_meaning.specs.Environments as env
 use Rattle.program_meaning.specs.Environments.{Env, bind, Thing, to_constant, Job, phrase_job, while_job, step_job, list_job, items_job, Bodied, Meant, Ready, head, at_control}
+use Rattle.program_meaning.specs.Widths.{WidthsSet, none_set, with_width}
 use Rattle.program_soundness.specs.Kinds as kinds
 use Rattle.program_soundness.specs.Kinds.{Kind, an_integer, a_truth, some_bits, a_string, a_reference, kind_of, Want, a_statement, a_value, a_place, use_of, result_want, given_want, IsVariable, IsProper, IsProperResult, IsProperFormal, AreProper, operand_of, answer_of, left_of, right_of, IsConstant, Context, Table}
 use Rattle.program_soundness.specs.Fits.{IsNoPlace, IsResult, IsAssigned, Fits, AllFit, ValuesFit, FieldsFit, TargetsFit, CardsFit, SubscriptsFit, ItemsFit, BoundsFit, DeclsFit, ActualsFit, ActualFits, IsRead, phrase_count, subscript_count}
@@ -32,7 +33,7 @@ use Rattle.program_soundness.proofs.Growing.{same_live, same_world, extends_both
 use Rattle.program_soundness.proofs.Sound.{Sound, sound_bind, sound_then, sound_give, sound_fault, sound_test, quiet_bind, quiet_then, sound_end}
 use Rattle.program_soundness.proofs.Quiet.{quiet_tick, quiet_begin, quiet_take, quiet_back, quiet_written, quiet_read_so_far, quiet_set_read, quiet_io_control, quiet_variables, sound_holding}
 use Rattle.program_soundness.proofs.Values.{sound_value, sound_spot, sound_integer, sound_truth, sound_string, sound_record_in, sound_unary, sound_binary, sound_relation, sound_part, filled_long}
-use Rattle.program_soundness.proofs.Variables.{sound_made, sound_made_result, sound_assign, sound_within}
+use Rattle.program_soundness.proofs.Variables.{sound_variable, sound_made, sound_made_result, sound_assign, sound_within}
 use Rattle.program_soundness.proofs.Records.{sound_field, sound_class, FieldsSuit, none_fields, sound_make_record}
 use Rattle.program_soundness.proofs.Readiness.{AllReady, PutsSuit, puts_grow, ready_grows, ReadySuits}
 use Rattle.program_soundness.proofs.Actuals.{ActualsFor, ActualFor, SubarrayFor}
@@ -236,7 +237,7 @@ module _ (table : Table) (set : Setting) (later : Job → M Bodied state.Given) 
     sound Empty live W c e want w f s = subst (λ want. Sound table live W (Suits want) (give nothing)) (sym f) (sound_give table nothing tt)
     sound (Constant v) live W c e want w f s = at_value want f.0 w _ f.1 (sound_give table (state.a_value v) (constant_suits W f.0 v f.2))
     sound (Named x) live W c e want w f s = sound_named table set later later_sound w c e x want f s
-    sound (Variable k) live W c e want w f s = absurd f
+    sound (Variable k) live W c e want w f s = record { by = λ t p. (sound_variable table w an_integer k want f.1 (p.standard k f.0)).by t p }
     sound (Array k given) live W c e want w f s = absurd f
     sound (Label l) live W c e want w f s = absurd f
     sound (Procedure k) live W c e want w f s = absurd f
@@ -301,8 +302,8 @@ module _ (table : Table) (set : Setting) (later : Job → M Bodied state.Given) 
     sound (Goto st a) live W c e want w f s = quiet_then table (quiet_begin table set (Some st)) (sound_went table set later later_sound st c e a f.1 s)
     sound (Assert st a) live W c e want w f s =
         at_statement want w _ f.0 (quiet_then table (quiet_begin table set (Some st)) (sound_bind table (sound_truth table st (sound a live W c e (a_value a_truth) st f.1 s)) (λ V d truth p. sound_test table truth (λ q. sound_give table nothing tt) (sound_fault table fault.AssertionFalse st))))
-    sound (Write st first values) live W c e want w f s =
-        at_statement want w _ f.0 (quiet_then table (quiet_begin table set (Some st)) (sound_then table (sound_writes values live W c e st first f.1 s) (λ V d. sound_give table nothing tt)))
+    sound (Write st first roles values) live W c e want w f s =
+        at_statement want w _ f.0 (quiet_then table (quiet_begin table set (Some st)) (sound_then table (sound_writes values live W c e st first none_set roles f.1 s) (λ V d. sound_give table nothing tt)))
     sound (Read st next targets) live W c e want w f s =
         at_statement want w _ f.0 (quiet_then table (quiet_begin table set (Some st)) (sound_then table (sound_reads targets live W c e st next f.1 s) (λ V d. sound_give table nothing tt)))
     sound (ReadCard st targets) live W c e want w f s =
@@ -338,10 +339,13 @@ module _ (table : Table) (set : Setting) (later : Job → M Bodied state.Given) 
         sound_bind table (sound_integer table w (sound a live W c e (a_value an_integer) w f.0 s)) (λ V d i p.
         sound_then table (sound_holding table w (quiet_then table (quiet_tick table set w) (later_sound (list_job w x i body e) live V a_statement (refl, c, grown table live c e d s, g)))) (λ U h. sound_list rest live U c e w x body f.1 g (grown table live c e (extends_both d h) s)))
 
-    sound_writes : (ps : Phrases) (live : Live) (W : World) (c : Context) (e : Env) (w : Place) (first : Bool) → ValuesFit table c ps → EnvSuits table W live c e → Sound table live W (λ V a. ⊤) (env.go_writes set later ps w first e)
-    sound_writes no_phrases live W c e w first f s = sound_give table tt tt
-    sound_writes (phrase_and a rest) live W c e w first f s =
-        sound_bind table (sound_value table f.0 w (sound a live W c e (a_value f.0) w f.1 s)) (λ V d v p. quiet_then table (quiet_written table set w first v) (sound_writes rest live V c e w false f.2 (grown table live c e d s)))
+    sound_writes : (ps : Phrases) (live : Live) (W : World) (c : Context) (e : Env) (w : Place) (first : Bool) (ws : WidthsSet) (roles : List Role) → ValuesFit table c roles ps → EnvSuits table W live c e → Sound table live W (λ V a. ⊤) (env.go_writes set later ps w first ws roles e)
+    sound_writes no_phrases live W c e w first ws roles f s = sound_give table tt tt
+    sound_writes (phrase_and a rest) live W c e w first ws [] f s = absurd f
+    sound_writes (phrase_and a rest) live W c e w first ws (a_value_placed ∷ roles) f s =
+        sound_bind table (sound_value table f.0 w (sound a live W c e (a_value f.0) w f.1 s)) (λ V d v p. quiet_then table (quiet_written table set w first ws v) (sound_writes rest live V c e w false ws roles f.2 (grown table live c e d s)))
+    sound_writes (phrase_and a rest) live W c e w first ws (sets k ∷ roles) f s =
+        sound_bind table (sound_integer table w (sound a live W c e (a_value an_integer) w f.0 s)) (λ V d n p. sound_writes rest live V c e w first (with_width k n ws) roles f.1 (grown table live c e d s))
 
     sound_reads : (ps : Targets) (live : Live) (W : World) (c : Context) (e : Env) (w : Place) (next : Bool) → TargetsFit table c ps → EnvSuits table W live c e → Sound table live W (λ V a. ⊤) (env.go_reads set later ps w next e)
     sound_reads no_targets live W c e w next f s = sound_give table tt tt

@@ -72,6 +72,7 @@ module _ (table : Table) where
   holds_record : {W : World} {made : ℕ → Bool} (s : State Bodied) (info : RecordInfo) → StateSuits table W made s → RecordSuits table W info → StateSuits table (more_records W info) made (record s { records = s.records ++ info ∷ [] })
   holds_record {W = W} s info h f = let g = grows_records W info in record {
     memory_count = h.memory_count;
+    standard = h.standard;
     arrays_count = h.arrays_count;
     cells = λ k a p. cell_grows table g a (slice_get s.memory k) (h.cells k a p);
     infos = λ k a p. info_grows table g a (slice_get s.arrays k) (h.infos k a p);

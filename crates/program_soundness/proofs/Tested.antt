@@ -1,7 +1,8 @@
 -- What passes the test fits.
 use Rattle.std.proofs.Common.{◌≡◌, ℕ, List, [], ◌∷◌, map, length, refl, ap, ◌∙◌}
 use Rattle.std.proofs.lemmas.Bool.{eqb-true}
-use Rattle.std.specs.Prelude.{Option, Some, None, Bool, true, false, ◌&&◌, nat_eq, nat_le}
+use borrow.Author.Tests.{ltb-true}
+use Rattle.std.specs.Prelude.{Option, Some, None, Bool, true, false, ◌&&◌, nat_eq, nat_le, nat_lt}
 use Rattle.value_ops.specs.declared.places.Place.{Place}
 use Rattle.value_ops.specs.declared.values.Value.{Value}
 use Rattle.value_ops.specs.declared.values.Value.TheVariants as value
@@ -11,7 +12,7 @@ use Rattle.algolw_tree.specs.declared.phrases.RelOp.{RelOp}
 use Rattle.algolw_tree.specs.declared.phrases.RelOp.TheVariants as rel
 use Rattle.algolw_typing.specs.Types.{ValueType, Gives, Statement, Simple, Integer, Logical, Bits, Str, Reference}
 use Rattle.algolw_typing.specs.Meanings.{FormalType, by_name, by_value, by_result, by_value_result, for_array, for_procedure}
-use Rattle.program_meaning.specs.Phrases.{Phrase, Empty, Constant, Named, Variable, Array, Label, Procedure, Copied, Unary, Binary, Relation, IsClass, Element, Field, Part, Record, RecordAlone, IfThen, Case, Block, Call, Assign, WhileDo, ForStep, ForList, Goto, Assert, Write, Read, ReadCard, IoControl, Phrases, no_phrases, phrase_and, Targets, no_targets, target_and, Subscripts, no_subscripts, star_and, subscript_and, Actuals, no_actuals, actual_and, Actual, Given, Alone, Subarray, Items, no_items, item_and, Bounds, no_bounds, bound_and, Decls, no_decls, variables_and, arrays_and, procedure_and, Formal}
+use Rattle.program_meaning.specs.Phrases.{Phrase, Empty, Constant, Named, Variable, Array, Label, Procedure, Copied, Unary, Binary, Relation, IsClass, Element, Field, Part, Record, RecordAlone, IfThen, Case, Block, Call, Assign, WhileDo, ForStep, ForList, Goto, Assert, Write, Read, ReadCard, IoControl, Phrases, no_phrases, phrase_and, Targets, no_targets, target_and, Subscripts, no_subscripts, star_and, subscript_and, Actuals, no_actuals, actual_and, Actual, Given, Alone, Subarray, Items, no_items, item_and, Bounds, no_bounds, bound_and, Decls, no_decls, variables_and, arrays_and, procedure_and, Formal, Role, placed, sets}
 use Rattle.program_soundness.specs.Kinds.{Kind, an_integer, a_truth, some_bits, a_string, a_reference, kind_of, Want, a_statement, a_value, a_place, result_want, given_want, IsVariable, IsProper, IsProperResult, IsProperGiven, IsProperFormal, AreProper, operand_of, answer_of, IsUsed, left_of, right_of, IsOrdered, IsCompared, IsConstant, Meaning, a_variable, a_control, an_array, a_label, a_procedure, a_procedure_formal, Context, meaning_in, Table, at_control, with_formals, with_block}
 use Rattle.program_soundness.specs.Fits.{Names, IsNamed, IsNoPlace, IsResult, CallFits, IsAssigned, IsPassed, IsRead, Fits, AllFit, ValuesFit, FieldsFit, TargetsFit, CardsFit, SubscriptsFit, ItemsFit, BoundsFit, DeclsFit, ActualsFit, ActualFits, named_meaning, field_kind, phrase_count, subscript_count, they_fit}
 use Rattle.program_soundness.specs.Testing.{is_kind, is_want, are_kinds, look, is_variable, is_no_place, is_result, is_proper, is_proper_result, is_proper_given, is_proper_formal, are_proper, is_read, is_used, is_ordered, is_compared, is_constant, is_named, is_element, is_array, is_label, is_passed, is_field, is_record, has_fields, is_call, is_assigned, fits, all_fit, values_fit, fields_fit, targets_fit, cards_fit, subscripts_fit, items_fit, bounds_fit, decls_fit, actuals_fit, actual_fits}
@@ -219,7 +220,7 @@ module _ (table : Table) where
     fits_read Empty c want e = want_read want a_statement e
     fits_read (Constant v) c want e = constant_read v want e
     fits_read (Named x) c want e = named_read (meaning_in c x) want e
-    fits_read (Variable k) c want e = absurd (cc e)
+    fits_read (Variable k) c want e = let h = both_true (nat_lt k 2) _ e in (ltb-true k 2 h.0, variable_read an_integer want h.1)
     fits_read (Array k given) c want e = absurd (cc e)
     fits_read (Label l) c want e = absurd (cc e)
     fits_read (Procedure k) c want e = absurd (cc e)
@@ -299,7 +300,7 @@ module _ (table : Table) where
         (want_read want a_statement h.0, all_read values c (a_value an_integer) i.0, fits_read body (at_control x.place c) a_statement i.1)
     fits_read (Goto st a) c want e = let h = both_true (is_want want a_statement) _ e in (want_read want a_statement h.0, names_read c a a_label (label_read (named_meaning c a) h.1))
     fits_read (Assert st a) c want e = let h = both_true (is_want want a_statement) _ e in (want_read want a_statement h.0, fits_read a c (a_value a_truth) h.1)
-    fits_read (Write st first values) c want e = let h = both_true (is_want want a_statement) _ e in (want_read want a_statement h.0, values_read values c h.1)
+    fits_read (Write st first roles values) c want e = let h = both_true (is_want want a_statement) _ e in (want_read want a_statement h.0, values_read values roles c h.1)
     fits_read (Read st next targets) c want e = let h = both_true (is_want want a_statement) _ e in (want_read want a_statement h.0, targets_read targets c h.1)
     fits_read (ReadCard st targets) c want e = let h = both_true (is_want want a_statement) _ e in (want_read want a_statement h.0, cards_read targets c h.1)
     fits_read (IoControl st a) c want e = let h = both_true (is_want want a_statement) _ e in (want_read want a_statement h.0, fits_read a c (a_value an_integer) h.1)
@@ -308,11 +309,15 @@ module _ (table : Table) where
     all_read no_phrases c want e = tt
     all_read (phrase_and a rest) c want e = let h = both_true (fits table c a want) _ e in (fits_read a c want h.0, all_read rest c want h.1)
 
-    values_read : (ps : Phrases) (c : Context) → values_fit table c ps ≡ true → ValuesFit table c ps
-    values_read no_phrases c e = tt
-    values_read (phrase_and a rest) c e =
+    values_read : (ps : Phrases) (roles : List Role) (c : Context) → values_fit table c roles ps ≡ true → ValuesFit table c roles ps
+    values_read no_phrases roles c e = tt
+    values_read (phrase_and a rest) [] c e = absurd (cc e)
+    values_read (phrase_and a rest) (placed ∷ roles) c e =
         let h = both_true (fits table c a (a_value (look table c a))) _ e in
-        (look table c a, fits_read a c (a_value (look table c a)) h.0, values_read rest c h.1)
+        (look table c a, fits_read a c (a_value (look table c a)) h.0, values_read rest roles c h.1)
+    values_read (phrase_and a rest) (sets n ∷ roles) c e =
+        let h = both_true (fits table c a (a_value an_integer)) _ e in
+        (fits_read a c (a_value an_integer) h.0, values_read rest roles c h.1)
 
     values_of_fields : (ps : Phrases) (c : Context) (ts : List ValueType) → fields_fit table c ts ps ≡ true → FieldsFit table c ts ps
     values_of_fields no_phrases c [] e = tt

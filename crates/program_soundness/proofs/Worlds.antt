@@ -158,6 +158,8 @@ module _ (table : Table) where
   pub record Holds (W : World) (made : ℕ → Bool) (memory : List (Option Value)) (arrays : List (Option ArrayInfo)) (procedures : List Bodied) (records : List RecordInfo) : Type 0 where
     pub memory_count : length memory ≡ length W.memory
     pub arrays_count : length arrays ≡ length W.arrays
+    -- the standard variables
+    pub standard : (k : ℕ) → k < 2 → slice_get W.memory k ≡ Some an_integer
     pub cells : (k : ℕ) (kind : Kind) → slice_get W.memory k ≡ Some kind → CellSuits W kind (slice_get memory k)
     pub infos : (k : ℕ) (a : ArrayKind) → slice_get W.arrays k ≡ Some a → InfoSuits W a (slice_get arrays k)
     pub made_arrays : (k : ℕ) → made k ≡ true → IsMade (slice_get arrays k)

@@ -1,12 +1,12 @@
 -- When a phrase that is executed fits what it is wanted for, where its names have these meanings.
-use Rattle.std.specs.Prelude.{◌≡◌, ℕ, ◌+◌, ◌≤◌, ⊤, List, [], ◌∷◌, map, length, slice_get, Option, Some, None, Bool, true, false, ◌&&◌, nat_eq}
+use Rattle.std.specs.Prelude.{◌≡◌, ℕ, ◌+◌, ◌≤◌, ⊤, List, [], ◌∷◌, map, length, slice_get, Option, Some, None, Bool, true, false, ◌&&◌, nat_eq, ◌<◌}
 use Rattle.value_ops.specs.declared.places.Place.{Place}
 use Rattle.algolw_typing.specs.Types.{ValueType, Gives, Statement, Simple, Reference}
 use Rattle.algolw_typing.specs.Verdicts.{Good}
 use Rattle.algolw_typing.specs.Meanings as typing
 use Rattle.algolw_typing.specs.Meanings.{FormalType, Part}
 use Rattle.algolw_typing.specs.Actuals.{actuals_fit, procedure_name, wants_procedure}
-use Rattle.program_meaning.specs.Phrases.{Phrase, Empty, Constant, Named, Variable, Array, Label, Procedure, Copied, Unary, Binary, Relation, IsClass, Element, Field, Part as PartOf, Record, RecordAlone, IfThen, Case, Block, Call, Assign, WhileDo, ForStep, ForList, Goto, Assert, Write, Read, ReadCard, IoControl, Phrases, no_phrases, phrase_and, Targets, no_targets, target_and, Subscripts, no_subscripts, star_and, subscript_and, Actuals, no_actuals, actual_and, Actual, Given, Alone, Subarray, Items, no_items, item_and, Bounds, no_bounds, bound_and, Decls, no_decls, variables_and, arrays_and, procedure_and}
+use Rattle.program_meaning.specs.Phrases.{Phrase, Empty, Constant, Named, Variable, Array, Label, Procedure, Copied, Unary, Binary, Relation, IsClass, Element, Field, Part as PartOf, Record, RecordAlone, IfThen, Case, Block, Call, Assign, WhileDo, ForStep, ForList, Goto, Assert, Write, Read, ReadCard, IoControl, Phrases, no_phrases, phrase_and, Targets, no_targets, target_and, Subscripts, no_subscripts, star_and, subscript_and, Actuals, no_actuals, actual_and, Actual, Given, Alone, Subarray, Items, no_items, item_and, Bounds, no_bounds, bound_and, Decls, no_decls, variables_and, arrays_and, procedure_and, Role, placed, sets}
 use Rattle.program_meaning.specs.Copying.{free_of, actual_count, is_good}
 use Rattle.program_soundness.specs.Kinds.{Kind, an_integer, a_truth, a_string, a_reference, kind_of, Want, a_statement, a_value, a_place, result_want, given_want, IsVariable, IsProper, IsProperResult, IsProperGiven, AreProper, operand_of, answer_of, IsUsed, left_of, right_of, IsCompared, IsConstant, Meaning, a_variable, a_control, an_array, a_label, a_procedure, a_procedure_formal, Context, meaning_in, Table, at_control, with_formals, with_block}
 
@@ -116,8 +116,8 @@ module _ (table : Table) where
     Fits c Empty want = want ≡ a_statement
     Fits c (Constant v) want = (k : Kind) × (want ≡ a_value k) × IsConstant k v
     Fits c (Named x) want = IsNamed (meaning_in c x) want
-    -- what is put for a name by copying stands in no program
-    Fits c (Variable k) want = ⊥
+    -- the two standard variables; what is put for another name by copying stands in no program
+    Fits c (Variable k) want = (k < 2) × IsVariable an_integer want
     Fits c (Array k given) want = ⊥
     Fits c (Label l) want = ⊥
     Fits c (Procedure k) want = ⊥
@@ -141,7 +141,7 @@ module _ (table : Table) where
     Fits c (ForList st x values body) want = (want ≡ a_statement) × AllFit c values (a_value an_integer) × Fits (at_control x.place c) body a_statement
     Fits c (Goto st a) want = (want ≡ a_statement) × Names c a a_label
     Fits c (Assert st a) want = (want ≡ a_statement) × Fits c a (a_value a_truth)
-    Fits c (Write st first values) want = (want ≡ a_statement) × ValuesFit c values
+    Fits c (Write st first roles values) want = (want ≡ a_statement) × ValuesFit c roles values
     Fits c (Read st next targets) want = (want ≡ a_statement) × TargetsFit c targets
     Fits c (ReadCard st targets) want = (want ≡ a_statement) × CardsFit c targets
     Fits c (IoControl st a) want = (want ≡ a_statement) × Fits c a (a_value an_integer)
@@ -151,10 +151,12 @@ module _ (table : Table) where
     AllFit c no_phrases want = ⊤
     AllFit c (phrase_and a rest) want = Fits c a want × AllFit c rest want
 
-    -- values of any kind
-    pub ValuesFit : Context → Phrases → Type 0
-    ValuesFit c no_phrases = ⊤
-    ValuesFit c (phrase_and a rest) = (k : Kind) × Fits c a (a_value k) × ValuesFit c rest
+    -- values of any kind, and integers to which widths are set
+    pub ValuesFit : Context → List Role → Phrases → Type 0
+    ValuesFit c roles no_phrases = ⊤
+    ValuesFit c [] (phrase_and a rest) = ⊥
+    ValuesFit c (placed ∷ roles) (phrase_and a rest) = (k : Kind) × Fits c a (a_value k) × ValuesFit c roles rest
+    ValuesFit c (sets n ∷ roles) (phrase_and a rest) = Fits c a (a_value an_integer) × ValuesFit c roles rest
 
     -- the values of a record's fields
     pub FieldsFit : Context → List ValueType → Phrases → Type 0

@@ -1,5 +1,5 @@
 -- A test of whether a phrase fits.
-use Rattle.std.specs.Prelude.{ℕ, List, [], ◌∷◌, map, length, Option, Some, None, Bool, true, false, ◌&&◌, nat_eq, nat_le}
+use Rattle.std.specs.Prelude.{ℕ, List, [], ◌∷◌, map, length, Option, Some, None, Bool, true, false, ◌&&◌, nat_eq, nat_le, nat_lt}
 use Rattle.value_ops.specs.declared.places.Place.{Place}
 use Rattle.value_ops.specs.declared.values.Value.{Value}
 use Rattle.value_ops.specs.declared.values.Value.TheVariants as value
@@ -10,7 +10,7 @@ use Rattle.algolw_tree.specs.declared.phrases.RelOp.TheVariants as rel
 use Rattle.algolw_typing.specs.Types.{ValueType, Gives, Statement, Simple, Str, Reference}
 use Rattle.algolw_typing.specs.Meanings.{FormalType, by_name, by_value, by_result, by_value_result, for_array, for_procedure}
 use Rattle.algolw_typing.specs.Programs.{TypedProgram}
-use Rattle.program_meaning.specs.Phrases.{Phrase, Empty, Constant, Named, Variable, Array, Label, Procedure, Copied, Unary, Binary, Relation, IsClass, Element, Field, Part, Record, RecordAlone, IfThen, Case, Block, Call, Assign, WhileDo, ForStep, ForList, Goto, Assert, Write, Read, ReadCard, IoControl, Phrases, no_phrases, phrase_and, Targets, no_targets, target_and, Subscripts, no_subscripts, star_and, subscript_and, Actuals, no_actuals, actual_and, Actual, Given, Alone, Subarray, Items, no_items, item_and, Bounds, no_bounds, bound_and, Decls, no_decls, variables_and, arrays_and, procedure_and, Formal}
+use Rattle.program_meaning.specs.Phrases.{Phrase, Empty, Constant, Named, Variable, Array, Label, Procedure, Copied, Unary, Binary, Relation, IsClass, Element, Field, Part, Record, RecordAlone, IfThen, Case, Block, Call, Assign, WhileDo, ForStep, ForList, Goto, Assert, Write, Read, ReadCard, IoControl, Phrases, no_phrases, phrase_and, Targets, no_targets, target_and, Subscripts, no_subscripts, star_and, subscript_and, Actuals, no_actuals, actual_and, Actual, Given, Alone, Subarray, Items, no_items, item_and, Bounds, no_bounds, bound_and, Decls, no_decls, variables_and, arrays_and, procedure_and, Formal, Role, placed, sets}
 use Rattle.program_meaning.specs.Translating.{program_phrase}
 use Rattle.program_soundness.specs.Kinds.{Kind, an_integer, a_truth, some_bits, a_string, a_reference, kind_of, Want, a_statement, a_value, a_place, result_want, given_want, operand_of, answer_of, left_of, right_of, Meaning, a_variable, a_control, an_array, a_label, a_procedure, a_procedure_formal, Context, meaning_in, Table, at_control, with_formals, with_block}
 use Rattle.program_soundness.specs.Fits.{named_meaning, field_kind, phrase_count, subscript_count, they_fit}
@@ -217,7 +217,7 @@ module _ (table : Table) where
     fits c Empty want = is_want want a_statement
     fits c (Constant v) want = is_constant v want
     fits c (Named x) want = is_named (meaning_in c x) want
-    fits c (Variable k) want = false
+    fits c (Variable k) want = nat_lt k 2 && is_variable an_integer want
     fits c (Array k given) want = false
     fits c (Label l) want = false
     fits c (Procedure k) want = false
@@ -241,7 +241,7 @@ module _ (table : Table) where
     fits c (ForList st x values body) want = is_want want a_statement && (all_fit c values (a_value an_integer) && fits (at_control x.place c) body a_statement)
     fits c (Goto st a) want = is_want want a_statement && is_label (named_meaning c a)
     fits c (Assert st a) want = is_want want a_statement && fits c a (a_value a_truth)
-    fits c (Write st first values) want = is_want want a_statement && values_fit c values
+    fits c (Write st first roles values) want = is_want want a_statement && values_fit c roles values
     fits c (Read st next targets) want = is_want want a_statement && targets_fit c targets
     fits c (ReadCard st targets) want = is_want want a_statement && cards_fit c targets
     fits c (IoControl st a) want = is_want want a_statement && fits c a (a_value an_integer)
@@ -250,9 +250,11 @@ module _ (table : Table) where
     all_fit c no_phrases want = true
     all_fit c (phrase_and a rest) want = fits c a want && all_fit c rest want
 
-    pub values_fit : Context → Phrases → Bool
-    values_fit c no_phrases = true
-    values_fit c (phrase_and a rest) = fits c a (a_value (look table c a)) && values_fit c rest
+    pub values_fit : Context → List Role → Phrases → Bool
+    values_fit c roles no_phrases = true
+    values_fit c [] (phrase_and a rest) = false
+    values_fit c (placed ∷ roles) (phrase_and a rest) = fits c a (a_value (look table c a)) && values_fit c roles rest
+    values_fit c (sets n ∷ roles) (phrase_and a rest) = fits c a (a_value an_integer) && values_fit c roles rest
 
     pub fields_fit : Context → List ValueType → Phrases → Bool
     fields_fit c [] no_phrases = true

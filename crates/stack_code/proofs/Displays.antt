@@ -10,14 +10,16 @@ use Rattle.value_ops.specs.declared.values.SimpleType.{SimpleType}
 use Rattle.value_ops.specs.declared.values.Value.{Value}
 use Rattle.value_ops.specs.declared.values.Value.TheVariants as value
 use Rattle.output_editing.specs.Layout.{Piece, lay}
-use Rattle.output_editing.specs.Written.{written_first, written_on}
+use Rattle.algolw_tree.specs.declared.standard.Width.{Width}
+use Rattle.algolw_tree.specs.declared.standard.Width.TheVariants.{Columns, Blanks}
 use Rattle.algolw_typing.specs.Types.{ValueType, Integer, Logical, Bits, Str, Reference, Gives, has}
 use Rattle.algolw_typing.specs.Meanings.{FormalType, by_name, by_value, by_result, by_value_result, for_array, for_procedure}
 use Rattle.program_meaning.specs.Phrases.{Formal, Name}
 use Rattle.program_meaning.specs.Operations.{Answer, gives, faults, misfits}
 use Rattle.program_meaning.specs.State.{Setting, ArrayInfo, Use, for_value, for_place, elements, most_cells, most_records, most_fields}
+use Rattle.program_meaning.specs.Widths.{WidthsSet, none_set, with_width, variable_of, may_be_placed, widths_of, pieces_of}
 use Rattle.program_meaning.specs.Copying.{case_number, read_type}
-use Rattle.stack_code.specs.Machine.{on_top_of, Where, in_cell, in_field, Spot, whole, within, Closure, Thunk, Content, nothing, a_value, a_spot, an_array, some_bounds, a_thunk, a_procedure, RecordMade, Entry, a_name, a_procedure_name, a_block, declared, a_turn, a_call, an_actual, an_aside, Frame, Machine, outwards}
+use Rattle.stack_code.specs.Machine.{on_top_of, Where, in_cell, in_field, Spot, whole, within, Closure, Thunk, Content, nothing, a_value, a_spot, an_array, some_bounds, a_thunk, a_procedure, RecordMade, Entry, a_name, a_procedure_name, a_block, declared, a_turn, a_call, an_actual, an_aside, Frame, Machine, outwards, some_widths}
 use Rattle.stack_code.specs.Instr as instr
 use Rattle.stack_code.specs.Instr.{Instr, Mode, the_value, the_place, as_asked, Source, from_entry, from_head, Reading, as_phrase, as_name, as_subarray, as_nothing, ProcedureHead, TextHead}
 use Rattle.stack_code.specs.Code.{Code, Coded, procedure_head}
@@ -298,6 +300,7 @@ cut_to text kept (a_turn st back) = record { by = λ m. tt }
 cut_to text kept (a_call head site) = record { by = λ m. tt }
 cut_to text kept (an_actual head) = record { by = λ m. tt }
 cut_to text kept an_aside = record { by = λ m. tt }
+cut_to text kept (some_widths ws) = record { by = λ m. tt }
 
 -- ---- variables
 
@@ -416,7 +419,7 @@ push_array : (t : ValueType) (bounds : List (ℤ × ℤ)) → Keeps (doing.push_
 push_array t bounds = record { by = λ m s. either (nat_le (length m.cells + (1 + elements bounds)) most_cells) _ _ s tt }
 
 make_record : (class : Name) (values : List (Option Value)) → Keeps (doing.make_record class values)
-make_record class values = record { by = λ m s. either (nat_lt (length m.records) most_records && nat_le (length m.fields + length values) most_fields) _ _ s tt }
+make_record class values = record { by = λ m s. either (nat_lt (length m.records) most_records && nat_le (length m.fields + length values) (2 + most_fields)) _ _ s tt }
 
 field_in : (u : Use) (position : ℕ) (r : RecordMade) → Keeps (doing.field_in u position r)
 field_in u position r = test _ _ _ (variable u (in_field (r.first + position))) stuck
@@ -467,9 +470,29 @@ put_pieces : (set : Setting) (pieces : List Piece) → Keeps (doing.put_pieces s
 put_pieces set [] = give _
 put_pieces set (piece ∷ pieces) = then (doing.print (piece ∷ [])) _ (print (piece ∷ [])) (then (doing.within_lines set) _ (within_lines set) (put_pieces set pieces))
 
-value_written : (set : Setting) (first : Bool) (v : Value) → Keeps (doing.value_written set first v)
-value_written set true v = put_pieces set (written_first v)
-value_written set false v = put_pieces set (written_on v)
+widths_in : (e : Entry) → Keeps (doing.widths_in e)
+widths_in (a_name text k) = stuck
+widths_in (a_procedure_name text k) = stuck
+widths_in (a_block p cells) = stuck
+widths_in (declared cells depth frames) = stuck
+widths_in (a_turn st back) = stuck
+widths_in (a_call head site) = stuck
+widths_in (an_actual head) = stuck
+widths_in an_aside = stuck
+widths_in (some_widths ws) = give ws
+
+set_entry : (k : ℕ) (e : Entry) → Keeps (doing.set_entry k e)
+set_entry k e = record { by = λ m s. s }
+
+width_now : (k : Width) (o : Option ℤ) → Keeps (doing.width_now k o)
+width_now k (Some n) = give n
+width_now k None = bind (doing.value_at (in_field (variable_of k))) doing.integer_of (value_at (in_field (variable_of k))) integer_of
+
+value_placed : (set : Setting) (first : Bool) (v : Value) (columns blanks : ℤ) → Keeps (doing.value_placed set first v columns blanks)
+value_placed set first v columns blanks = test (may_be_placed v columns blanks) _ _ (put_pieces set (pieces_of first v (widths_of columns blanks))) (fault_now fault.WidthOutOfRange)
+
+value_written : (set : Setting) (first : Bool) (v : Value) (ws : WidthsSet) → Keeps (doing.value_written set first v ws)
+value_written set first v ws = bind (doing.width_now Columns ws.columns) _ (width_now Columns ws.columns) (λ columns. bind (doing.width_now Blanks ws.blanks) _ (width_now Blanks ws.blanks) (λ blanks. value_placed set first v columns blanks))
 
 read_so_far : Keeps doing.read_so_far
 read_so_far = record { by = λ m s. s }
@@ -576,6 +599,7 @@ turn_back (a_turn st back) = give back
 turn_back (a_call head site) = stuck
 turn_back (an_actual head) = stuck
 turn_back an_aside = stuck
+turn_back (some_widths ws) = stuck
 
 cut_to_position : (position : ℕ) → Keeps (table.cut_to_position position)
 cut_to_position position = bind (doing.start_out 0) _ (start_out 0) (λ start. cut_entries (start + position))
@@ -594,6 +618,7 @@ block_cells (a_turn st back) = stuck
 block_cells (a_call head site) = stuck
 block_cells (an_actual head) = stuck
 block_cells an_aside = stuck
+block_cells (some_widths ws) = stuck
 
 paired : (is : List ℤ) → Keeps (table.paired is)
 paired [] = give []
@@ -768,12 +793,24 @@ holding r p = going_on (r >>= doing.hold) (bind r doing.hold p hold)
 stops : Keeps {A = Unit {0}} doing.ended
 stops = record { by = λ m s. tt }
 
+widths_here : (position : Option ℕ) → Keeps (table.widths_here position)
+widths_here None = give none_set
+widths_here (Some position) = bind (doing.entry_out 0 position) doing.widths_in (entry_out 0 position) widths_in
+
+widths_become : (marks : ℕ) (position : Option ℕ) (ws : WidthsSet) → Keeps (table.widths_become marks position ws)
+widths_become marks None ws = enter marks (some_widths ws)
+widths_become marks (Some position) ws = bind (doing.start_out 0) _ (start_out 0) (λ start. set_entry (start + position) (some_widths ws))
+
+standard_variable : (u : Mode) (n : ℕ) → Keeps (table.standard_variable u n)
+standard_variable u n = bind (doing.wanted_for u) _ (wanted_for u) (λ purpose. going_on (doing.variable purpose (in_field n)) (variable purpose (in_field n)))
+
 -- ---- each instruction
 
 does : (set : Setting) (code : Code) (w : Place) (i : Instr) → Keeps (table.does set code w i)
 does set code w instr.Nothing = going_on (doing.hold nothing) (hold nothing)
 does set code w (instr.Constant v) = going_on (doing.hold (a_value v)) (hold (a_value v))
 does set code w (instr.Variable u links position) = entry_variable u links position
+does set code w (instr.Standard u n) = standard_variable u n
 does set code w instr.Push = going_on (doing.held_now >>= doing.push) (bind doing.held_now doing.push held_now push)
 does set code w instr.Reserve = going_on (doing.push nothing) (push nothing)
 does set code w (instr.Unary op) = bind table.value_held _ value_held (λ v. going_on (doing.answer _) (answer _))
@@ -792,7 +829,9 @@ does set code w (instr.JumpUnless target) = bind table.truth_held _ truth_held (
 does set code w (instr.Choose count) = bind table.integer_held _ integer_held (λ i. choose count (case_number i))
 does set code w (instr.Assign t b) = assigned t b
 does set code w instr.Assert = bind table.truth_held _ truth_held (λ b. test b _ _ (going_on (doing.hold nothing) (hold nothing)) (fault_now fault.AssertionFalse))
-does set code w (instr.Write first) = going_on (table.value_held >>= doing.value_written set first) (bind table.value_held (doing.value_written set first) value_held (value_written set first))
+does set code w (instr.SetWidth k position) = bind table.integer_held _ integer_held (λ n. bind (table.widths_here position) _ (widths_here position) (λ ws. going_on (table.widths_become code.marks position (with_width k n ws)) (widths_become code.marks position (with_width k n ws))))
+does set code w (instr.Write first position) = bind table.value_held _ value_held (λ v. going_on (table.widths_here position >>= doing.value_written set first v) (bind (table.widths_here position) (doing.value_written set first v) (widths_here position) (value_written set first v)))
+does set code w (instr.CloseWidths position) = then (table.cut_to_position position) _ (cut_to_position position) (going_on (doing.hold nothing) (hold nothing))
 does set code w (instr.Read next t) = bind table.spot_held _ spot_held (λ k. going_on (doing.scan set next (read_type t) >>= doing.assign t k) (bind (doing.scan set next (read_type t)) (doing.assign t k) (scan set next (read_type t)) (assign t k)))
 does set code w (instr.ReadCard t) = bind table.spot_held _ spot_held (λ k. going_on (doing.take_card set >>= doing.assign t k) (bind (doing.take_card set) (doing.assign t k) (take_card set) (assign t k)))
 does set code w instr.IoControl = then (table.integer_held >>= doing.io_control) _ (bind table.integer_held doing.io_control integer_held io_control) (going_on (doing.hold nothing) (hold nothing))

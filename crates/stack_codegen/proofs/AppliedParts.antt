@@ -15,6 +15,7 @@ use Rattle.algolw_typing.specs.Types.{ValueType, has}
 use Rattle.algolw_typing.specs.ProgramView.{Numbers, numbered}
 use Rattle.program_meaning.specs.Phrases as phrases
 use Rattle.program_meaning.specs.Phrases.{Phrase}
+use Rattle.program_meaning.specs.Widths.{variable_of}
 use Rattle.program_meaning.specs.Translating as translating
 use Rattle.program_meaning.specs.Translating.{first_of, given_of, name_at, named_of, number_of, parts_of, targets_of}
 use Rattle.program_soundness.proofs.Variables.{some_inj}
@@ -77,7 +78,6 @@ plan_plain here u (standing.Field c k t) n plan h = by_plan (λ p. is_plain p.do
 plan_plain here u (standing.Standard (standard.Function op)) n plan h = by_plan (λ p. is_plain p.does ≡ true) _ plan h refl
 plan_plain here u (standing.Standard (standard.Read on)) n plan h = by_plan (λ p. is_plain p.does ≡ true) _ plan h refl
 plan_plain here u (standing.Standard standard.ReadCard) n plan h = by_plan (λ p. is_plain p.does ≡ true) _ plan h refl
-plan_plain here u (standing.Standard (standard.Write first)) n plan h = by_plan (λ p. is_plain p.does ≡ true) _ plan h refl
 plan_plain here u (standing.Standard standard.IoControl) n plan h = by_plan (λ p. is_plain p.does ≡ true) _ plan h refl
 plan_plain here u x n plan h = absurd (cc h)
 
@@ -92,7 +92,6 @@ plan_fits e fits here u (standing.Field c i t) n plan k h = by_plan (λ p. Instr
 plan_fits e fits here u (standing.Standard (standard.Function op)) n plan k h = by_plan (λ p. InstrFits e.code.given e.code.added p.does) _ plan h tt
 plan_fits e fits here u (standing.Standard (standard.Read on)) n plan k h = by_plan (λ p. InstrFits e.code.given e.code.added p.does) _ plan h tt
 plan_fits e fits here u (standing.Standard standard.ReadCard) n plan k h = by_plan (λ p. InstrFits e.code.given e.code.added p.does) _ plan h tt
-plan_fits e fits here u (standing.Standard (standard.Write first)) n plan k h = by_plan (λ p. InstrFits e.code.given e.code.added p.does) _ plan h tt
 plan_fits e fits here u (standing.Standard standard.IoControl) n plan k h = by_plan (λ p. InstrFits e.code.given e.code.added p.does) _ plan h tt
 plan_fits e fits here u x n plan k h = absurd (cc h)
 
@@ -121,7 +120,6 @@ module _ (s : Scene) (node : Node) (name : ℕ) (here : Here) (u : Mode) (n : �
   planned_suits (standing.Standard (standard.Function op)) plan h k = by_plan Suit _ plan h (function_suits op k)
   planned_suits (standing.Standard (standard.Read on)) plan h k = by_plan Suit _ plan h (k, tt)
   planned_suits (standing.Standard standard.ReadCard) plan h k = by_plan Suit _ plan h (k, tt)
-  planned_suits (standing.Standard (standard.Write start)) plan h k = by_plan Suit _ plan h (k, tt)
   planned_suits (standing.Standard standard.IoControl) plan h k = by_plan Suit _ plan h (k, tt)
   planned_suits x plan h k = absurd (cc h)
 
@@ -134,12 +132,12 @@ pub record Planned (a b : Emitter) (here : Here) (u : Mode) (node : Node) (name 
   pub named : (rest : typed.Lists) → parts_given (phrase_context (scene a)) whole phrase rest ≡ named_as (scene a) node name x (typed.list_and (typed.OfActuals q given) rest)
 
 -- in a statement the context is the same
-in_statement_same : (s : Scene) (ts : List ℕ) (here : Here) (st : Option ℕ) → coding_context s ts (in_statement here st) ≡ coding_context s ts here
+pub in_statement_same : (s : Scene) (ts : List ℕ) (here : Here) (st : Option ℕ) → coding_context s ts (in_statement here st) ≡ coding_context s ts here
 in_statement_same s ts here None = refl
 in_statement_same s ts here (Some n) = refl
 
 -- and the place is the statement's
-statement_place : (s : Scene) (here : Here) (first : Place) (st : Option ℕ) → IsStatement (option_map (numbered s.given.statements) st) → place_in s (in_statement here st) ≡ translating.statement_at first (option_map (numbered s.given.statements) st)
+pub statement_place : (s : Scene) (here : Here) (first : Place) (st : Option ℕ) → IsStatement (option_map (numbered s.given.statements) st) → place_in s (in_statement here st) ≡ translating.statement_at first (option_map (numbered s.given.statements) st)
 statement_place s here start None h = absurd h
 statement_place s here start (Some n) h = refl
 
@@ -236,9 +234,6 @@ module _ (a b : Emitter) (m : ℕ) (fits : EmitterFits a) (here : Here) (u : Mod
   read_planned : (on : Bool) → has standard_procedures (place_of s name) ≡ true → IsPlanned (standing.Standard (standard.Read on)) (names.transfer (list.Read on))
   read_planned on h = begun_planned (standing.Standard (standard.Read on)) (Some (list.Read on)) held.Nothing (λ c w. one w instr.Begin ▸ coding.code_reads c w on (next a + 1) (targets_of (phrase_context s) given) ▸ one w instr.Nothing) (phrases.Read st on (targets_of (phrase_context s) given)) h (λ ts. refl) (λ ts. refl) refl (λ rest. refl)
 
-  write_planned : (start : Bool) → has standard_procedures (place_of s name) ≡ true → IsPlanned (standing.Standard (standard.Write start)) (names.transfer (list.Write start))
-  write_planned start h = begun_planned (standing.Standard (standard.Write start)) (Some (list.Write start)) held.Nothing (λ c w. one w instr.Begin ▸ coding.code_writes c w start (next a + 1) gs ▸ one w instr.Nothing) (phrases.Write st start gs) h (λ ts. refl) (λ ts. refl) refl (λ rest. refl)
-
   -- a standard procedure stands at a place of these
   procedure_there : {k : Standard} → standing.Standard k ≡ x → is_procedure k ≡ true → has standard_procedures (place_of s name) ≡ true
   procedure_there o = subst (StandsAt s (place_of s name)) (sym o) there
@@ -251,7 +246,6 @@ module _ (a b : Emitter) (m : ℕ) (fits : EmitterFits a) (here : Here) (u : Mod
   planned (standing.Field c i t) o plan h = by_plan (IsPlanned (standing.Field c i t)) _ plan h (field_planned c i t)
   planned (standing.Standard (standard.Function op)) o plan h = by_plan (IsPlanned (standing.Standard (standard.Function op))) _ plan h (function_planned op)
   planned (standing.Standard (standard.Read on)) o plan h = by_plan (IsPlanned (standing.Standard (standard.Read on))) _ plan h (read_planned on (procedure_there o refl))
-  planned (standing.Standard (standard.Write start)) o plan h = by_plan (IsPlanned (standing.Standard (standard.Write start))) _ plan h (write_planned start (procedure_there o refl))
   planned (standing.Standard standard.ReadCard) o plan h =
       by_plan (IsPlanned (standing.Standard standard.ReadCard)) _ plan h
       (begun_planned (standing.Standard standard.ReadCard) (Some list.ReadCard) held.Nothing (λ c w. one w instr.Begin ▸ coding.code_cards c w (next a + 1) (targets_of (phrase_context s) given) ▸ one w instr.Nothing) (phrases.ReadCard st (targets_of (phrase_context s) given)) (procedure_there o refl) (λ ts. refl) (λ ts. refl) refl (λ rest. refl))
@@ -294,10 +288,11 @@ StandsAlone here u x lists = ((ns : Numbers) → begins_with_phrases (lists_in n
 abbrev alone_as : Scene → ℕ → Standing → Phrase
 alone_as s name (standing.Class c) = phrases.RecordAlone (name_at (phrase_context s) (at s name)) (number_of (map (kind_view s.given) (types_of s.symbols c)))
 alone_as s name (standing.Standard standard.MaxInteger) = phrases.Constant (value.Integer (pos 2147483647))
+alone_as s name (standing.Standard (standard.Variable width)) = phrases.Variable (variable_of width)
 alone_as s name x = phrases.Named (at s name)
 
 module _ (s : Scene) (node : Node) (name : ℕ) where
-  abbrev As : translating.Declared → typed.Lists → Phrase
+  abbrev pub As : translating.Declared → typed.Lists → Phrase
   As d lists = named_of (phrase_context s) node.place node.first (statement s node) (at s name) d lists
 
   none_of_class : (types : List ValueType) (lists : typed.Lists) → begins_with_phrases lists ≡ false → As (translating.a_class types) lists ≡ phrases.RecordAlone (name_at (phrase_context s) (at s name)) (number_of types)
@@ -315,12 +310,18 @@ module _ (s : Scene) (node : Node) (name : ℕ) where
   none_of_field c i t (typed.list_and (typed.OfPart q start n) rest) h = refl
   none_of_field c i t (typed.list_and (typed.OfActuals q given) rest) h = absurd (cc h)
 
-  -- but for MAXINTEGER, which is what it is with any lists
-  none_of_standard : (k : Standard) (lists : typed.Lists) → (k ≡ standard.MaxInteger → ⊥) → begins_with_phrases lists ≡ false → As (translating.a_standard_name k) lists ≡ phrases.Named (at s name)
-  none_of_standard standard.MaxInteger lists differs h = absurd (differs refl)
-  none_of_standard k typed.no_lists differs h = refl
-  none_of_standard k (typed.list_and (typed.OfPart q start n) rest) differs h = refl
-  none_of_standard k (typed.list_and (typed.OfActuals q given) rest) differs h = absurd (cc h)
+  -- but for MAXINTEGER and the standard variables, which are what they are with any lists
+  abbrev pub is_itself : Standard → Bool
+  is_itself standard.MaxInteger = true
+  is_itself (standard.Variable width) = true
+  is_itself k = false
+
+  pub none_of_standard : (k : Standard) (lists : typed.Lists) → is_itself k ≡ false → begins_with_phrases lists ≡ false → As (translating.a_standard_name k) lists ≡ phrases.Named (at s name)
+  none_of_standard standard.MaxInteger lists other h = absurd (cc other)
+  none_of_standard (standard.Variable width) lists other h = absurd (cc other)
+  none_of_standard k typed.no_lists other h = refl
+  none_of_standard k (typed.list_and (typed.OfPart q start n) rest) other h = refl
+  none_of_standard k (typed.list_and (typed.OfActuals q given) rest) other h = absurd (cc h)
 
   greatest : (lists : typed.Lists) → As (translating.a_standard_name standard.MaxInteger) lists ≡ phrases.Constant (value.Integer (pos 2147483647))
   greatest lists = refl
@@ -336,19 +337,18 @@ module _ (s : Scene) (node : Node) (name : ℕ) where
     alone_named (standing.Class c) a (inl h) = none_of_class (map (kind_view s.given) (types_of s.symbols c)) ls (h (numbers_in s))
     alone_named (standing.Array t e) a (inl h) = none_of_array (kind_view s.given t) ls (h (numbers_in s))
     alone_named (standing.Field c i t) a (inl h) = none_of_field (class_place s.given c) i (kind_view s.given t) ls (h (numbers_in s))
-    alone_named (standing.Standard (standard.Function op)) a (inl h) = none_of_standard (standard.Function op) ls (λ e. cc e) (h (numbers_in s))
-    alone_named (standing.Standard (standard.Read on)) a (inl h) = none_of_standard (standard.Read on) ls (λ e. cc e) (h (numbers_in s))
-    alone_named (standing.Standard standard.ReadCard) a (inl h) = none_of_standard standard.ReadCard ls (λ e. cc e) (h (numbers_in s))
-    alone_named (standing.Standard (standard.Write on)) a (inl h) = none_of_standard (standard.Write on) ls (λ e. cc e) (h (numbers_in s))
-    alone_named (standing.Standard standard.IoControl) a (inl h) = none_of_standard standard.IoControl ls (λ e. cc e) (h (numbers_in s))
+    alone_named (standing.Standard (standard.Function op)) a (inl h) = none_of_standard (standard.Function op) ls refl (h (numbers_in s))
+    alone_named (standing.Standard (standard.Read on)) a (inl h) = none_of_standard (standard.Read on) ls refl (h (numbers_in s))
+    alone_named (standing.Standard standard.ReadCard) a (inl h) = none_of_standard standard.ReadCard ls refl (h (numbers_in s))
+    alone_named (standing.Standard standard.IoControl) a (inl h) = none_of_standard standard.IoControl ls refl (h (numbers_in s))
     alone_named (standing.Standard standard.MaxInteger) a h = greatest ls
+    alone_named (standing.Standard (standard.Variable width)) a h = refl
     alone_named (standing.Class c) a (inr h) = let e = h.1 in absurd (cc e)
     alone_named (standing.Array t e) a (inr h) = let e = h.1 in absurd (cc e)
     alone_named (standing.Field c i t) a (inr h) = let e = h.1 in absurd (cc e)
     alone_named (standing.Standard (standard.Function op)) a (inr h) = let e = h.1 in absurd (cc e)
     alone_named (standing.Standard (standard.Read on)) a (inr h) = let e = h.1 in absurd (cc e)
     alone_named (standing.Standard standard.ReadCard) a (inr h) = let e = h.1 in absurd (cc e)
-    alone_named (standing.Standard (standard.Write first)) a (inr h) = let e = h.1 in absurd (cc e)
     alone_named (standing.Standard standard.IoControl) a (inr h) = let e = h.1 in absurd (cc e)
     alone_named x a h = absurd (cc a)
 
@@ -365,7 +365,7 @@ fields_counted s c l =
     omega (arith, mapped, taken, left, l)
 
 module _ (a b : Emitter) (fits : EmitterFits a) (here : Here) (u : Mode) (name : ℕ) (known : name < length a.code.given.names) where
-  alone_codes : (x : Standing) → standing_of a.symbols.names name ≡ x → is_applied x ≡ true → StandingFits (scene a) x → StandsAt (scene a) (place_of (scene a) name) x → b ≡ with_alone a here u x (alone_instr x) → CodesPhrase a b here u (alone_as (scene a) name x) 0
+  alone_codes : (x : Standing) → standing_of a.symbols.names name ≡ x → is_applied x ≡ true → StandingFits (scene a) x → StandsAt (scene a) (place_of (scene a) name) x → b ≡ with_alone a here u x (alone_instr u x) → CodesPhrase a b here u (alone_as (scene a) name x) 0
   alone_codes (standing.Class c) is o f at_place e =
       let s : Scene = scene a in
       let named : class_view s.given c.class ≡ name_at (phrase_context s) (at s name) = class_named s fits.scene c.class f.0 ∙ ap (name_at (phrase_context s)) (at_place ∙ sym (numbered_place s name)) in
@@ -374,6 +374,7 @@ module _ (a b : Emitter) (fits : EmitterFits a) (here : Here) (u : Mode) (name :
       ∙ ap (λ n. one (place_in s here) (instr.MakeRecordAlone (name_at (phrase_context s) (at s name)) n)) (fields_counted s c f.1)) refl
       (codes_is e (codes_plain none_own a here (held.MakeRecordAlone c.class c.count) fits.code (class_held a fits c.class f.0) refl))
   alone_codes (standing.Standard standard.MaxInteger) is o f at_place e = codes_is e (codes_plain none_own a here (held.Constant (constant.Integer (pos 2147483647))) fits.code tt refl)
+  alone_codes (standing.Standard (standard.Variable width)) is o f at_place e = codes_is e (codes_plain none_own a here (held.Standard u width) fits.code tt refl)
   alone_codes standing.Unknown is o f at_place e = alone_name here u name standing.Unknown fits known is e
   alone_codes (standing.Control x) is o f at_place e = alone_name here u name (standing.Control x) fits known is e
   alone_codes (standing.Label x target) is o f at_place e = alone_name here u name (standing.Label x target) fits known is e
@@ -382,20 +383,19 @@ module _ (a b : Emitter) (fits : EmitterFits a) (here : Here) (u : Mode) (name :
   alone_codes (standing.Standard (standard.Function op)) is o f at_place e = alone_name here u name (standing.Standard (standard.Function op)) fits known is e
   alone_codes (standing.Standard (standard.Read on)) is o f at_place e = alone_name here u name (standing.Standard (standard.Read on)) fits known is e
   alone_codes (standing.Standard standard.ReadCard) is o f at_place e = alone_name here u name (standing.Standard standard.ReadCard) fits known is e
-  alone_codes (standing.Standard (standard.Write first)) is o f at_place e = alone_name here u name (standing.Standard (standard.Write first)) fits known is e
   alone_codes (standing.Standard standard.IoControl) is o f at_place e = alone_name here u name (standing.Standard standard.IoControl) fits known is e
   alone_codes x is o f at_place e = absurd (cc o)
 
-pub alone_fits : (e : Emitter) → EmitterFits e → (name : ℕ) → AloneFits e (alone_instr (standing_of e.symbols.names name))
-alone_fits e fits name = by (standing_of e.symbols.names name) (standing_fits (scene e) fits.scene name)
+pub alone_fits : (e : Emitter) → EmitterFits e → (u : Mode) (name : ℕ) → AloneFits e (alone_instr u (standing_of e.symbols.names name))
+alone_fits e fits u name = by (standing_of e.symbols.names name) (standing_fits (scene e) fits.scene name)
   where
-    by : (x : Standing) → StandingFits (scene e) x → AloneFits e (alone_instr x)
+    by : (x : Standing) → StandingFits (scene e) x → AloneFits e (alone_instr u x)
     by (standing.Class c) f = class_held e fits c.class f.0
     by (standing.Standard standard.MaxInteger) f = tt
     by (standing.Standard k) f = tt
     by x f = tt
 
-pub alone_done : {a b : Emitter} {m : ℕ} (here : Here) (u : Mode) (node : Node) (name : ℕ) (lists : List TypedList) → IsCodable a (named_node node name lists) → is_applied (standing_of a.symbols.names name) ≡ true → StandsAlone here u (standing_of a.symbols.names name) lists → b ≡ with_alone a here u (standing_of a.symbols.names name) (alone_instr (standing_of a.symbols.names name)) → m ≡ 0 → CodesNode a b here u (named_node node name lists) m
+pub alone_done : {a b : Emitter} {m : ℕ} (here : Here) (u : Mode) (node : Node) (name : ℕ) (lists : List TypedList) → IsCodable a (named_node node name lists) → is_applied (standing_of a.symbols.names name) ≡ true → StandsAlone here u (standing_of a.symbols.names name) lists → b ≡ with_alone a here u (standing_of a.symbols.names name) (alone_instr u (standing_of a.symbols.names name)) → m ≡ 0 → CodesNode a b here u (named_node node name lists) m
 alone_done {a} {b} here u node name lists r applied alone e none =
     let s : Scene = scene a in
     let x : Standing = standing_of a.symbols.names name in
@@ -412,12 +412,12 @@ plan_told here u x y n k r plan same count told is = sym (ap (λ z. list_plan he
 pub none_told : (here : Here) (u : Mode) (x : Standing) (n : ℕ) (r : Option ListPlan) → r ≡ list_plan here u x n → r ≡ None → (k : ℕ) × (list_plan here u x k ≡ None)
 none_told here u x n r told is = (n, sym told ∙ is)
 
-pub alone_told : {a b : Emitter} {m : ℕ} (here : Here) (u : Mode) (node : Node) (name : ℕ) (lists : List TypedList) (x : Standing) → x ≡ standing_of a.symbols.names name → IsCodable a (named_node node name lists) → is_applied (standing_of a.symbols.names name) ≡ true → StandsAlone here u x lists → m ≡ 0 → b ≡ with_alone a here u x (alone_instr x) → CodesNode a b here u (named_node node name lists) m
+pub alone_told : {a b : Emitter} {m : ℕ} (here : Here) (u : Mode) (node : Node) (name : ℕ) (lists : List TypedList) (x : Standing) → x ≡ standing_of a.symbols.names name → IsCodable a (named_node node name lists) → is_applied (standing_of a.symbols.names name) ≡ true → StandsAlone here u x lists → m ≡ 0 → b ≡ with_alone a here u x (alone_instr u x) → CodesNode a b here u (named_node node name lists) m
 alone_told {a} {b} here u node name lists x same r applied alone none e =
-    alone_done here u node name lists r applied (subst (λ y. StandsAlone here u y lists) same alone) (subst (λ y. b ≡ with_alone a here u y (alone_instr y)) same e) none
+    alone_done here u node name lists r applied (subst (λ y. StandsAlone here u y lists) same alone) (subst (λ y. b ≡ with_alone a here u y (alone_instr u y)) same e) none
 
-pub alone_fit : (e : Emitter) → EmitterFits e → (name : ℕ) (x : Standing) → x ≡ standing_of e.symbols.names name → AloneFits e (alone_instr x)
-alone_fit e fits name x same = subst (λ y. AloneFits e (alone_instr y)) (sym same) (alone_fits e fits name)
+pub alone_fit : (e : Emitter) → EmitterFits e → (u : Mode) (name : ℕ) (x : Standing) → x ≡ standing_of e.symbols.names name → AloneFits e (alone_instr u x)
+alone_fit e fits u name x same = subst (λ y. AloneFits e (alone_instr u y)) (sym same) (alone_fits e fits u name)
 
 -- what is ensured in two clauses
 pub both_ensured : {E : Type 0} (r : Result ℕ AllocError) (Q : ℕ → Type 0) → IfOk r (λ m. m ≡ 0) → OnOk r E → ((m : ℕ) → m ≡ 0 → E → Q m) → IfOk r Q

@@ -7,6 +7,7 @@ pub mod Chains
 pub mod Typing
 pub mod PhraseParts
 pub mod ListParts
+pub mod WriteParts
 pub mod Nodes
 pub mod Leaves
 pub mod NodeKinds
@@ -52,3 +53,5 @@ pub mod CaseDone
 pub mod ProgramParts
 pub mod PhraseCases
 pub mod PhraseLinks
+pub mod SettingParts
+pub mod WholeWrites

@@ -42,7 +42,6 @@ use Rattle.stack_codegen.proofs.Typing.{variable_type_same}
 abbrev pub left_use : Here → ListUse → (n : ℕ) → List TypedActual → Form
 left_use here list.Subscripts n actuals s k ts = coding.code_each (coding_context s ts here) (place_in s here) k (given_of (phrase_context s) (actuals_in (numbers_in s) actuals))
 left_use here (list.Fields class) n actuals s k ts = coding.code_fields (coding_context s ts here) (place_in s here) k (drop n (map (kind_view s.given) (types_of s.symbols class))) (given_of (phrase_context s) (actuals_in (numbers_in s) actuals))
-left_use here (list.Write first) n actuals s k ts = coding.code_writes (coding_context s ts here) (place_in s here) (first && (n == 0)) k (given_of (phrase_context s) (actuals_in (numbers_in s) actuals))
 left_use here (list.Read next) n actuals s k ts = coding.code_reads (coding_context s ts here) (place_in s here) (next && (n == 0)) k (targets_of (phrase_context s) (actuals_in (numbers_in s) actuals))
 left_use here list.ReadCard n actuals s k ts = coding.code_cards (coding_context s ts here) (place_in s here) k (targets_of (phrase_context s) (actuals_in (numbers_in s) actuals))
 
@@ -53,21 +52,18 @@ at_first false = refl
 pub all_left : (here : Here) (u : ListUse) (actuals : List TypedActual) (s : Scene) (k : ℕ) (ts : List ℕ) → left_use here u 0 actuals s k ts ≡ use_code s here k u (actuals_in (numbers_in s) actuals) ts
 all_left here list.Subscripts actuals s k ts = refl
 all_left here (list.Fields class) actuals s k ts = refl
-all_left here (list.Write first) actuals s k ts = ap (λ b. coding.code_writes (coding_context s ts here) (place_in s here) b k (given_of (phrase_context s) (actuals_in (numbers_in s) actuals))) (at_first first)
 all_left here (list.Read next) actuals s k ts = ap (λ b. coding.code_reads (coding_context s ts here) (place_in s here) b k (targets_of (phrase_context s) (actuals_in (numbers_in s) actuals))) (at_first next)
 all_left here list.ReadCard actuals s k ts = refl
 
 pub none_left : (here : Here) (u : ListUse) (n : ℕ) (s : Scene) (k : ℕ) (ts : List ℕ) → left_use here u n [] s k ts ≡ []
 none_left here list.Subscripts n s k ts = refl
 none_left here (list.Fields class) n s k ts = refl
-none_left here (list.Write first) n s k ts = refl
 none_left here (list.Read next) n s k ts = refl
 none_left here list.ReadCard n s k ts = refl
 
 pub star_left : (here : Here) (u : ListUse) (n : ℕ) (q : Place) (rest : List TypedActual) (s : Scene) (k : ℕ) (ts : List ℕ) → left_use here u n (Star q ∷ rest) s k ts ≡ left_use here u n rest s k ts
 star_left here list.Subscripts n q rest s k ts = refl
 star_left here (list.Fields class) n q rest s k ts = refl
-star_left here (list.Write first) n q rest s k ts = refl
 star_left here (list.Read next) n q rest s k ts = refl
 star_left here list.ReadCard n q rest s k ts = refl
 
@@ -155,13 +151,6 @@ module _ (old now b after : Emitter) (whole : List ℕ → List code.Coded) (mar
   listed_step : (u : ListUse) → Left u → CodesPhrase now b here (wanted u) phrase n → after ≡ behind b here u i x.gives → Next u
   listed_step list.Subscripts r c e = remains_each here mode.Value phrase held.Push (left_use here list.Subscripts (i + 1) rest) (less list.Subscripts) refl tt refl (λ ts. refl) r c e
   listed_step (list.Fields class) r c e = fields_step class r c e
-  listed_step (list.Write first) r c e =
-      remains_each here mode.Value phrase (held.Write (first && (i == 0))) (left_use here (list.Write first) (i + 1) rest) (less (list.Write first)) refl tt refl
-      (λ ts.
-      let d : coding.Context = coding_context (scene now) ts here in
-      let w : Place = place_in (scene now) here in
-      ap (λ o. code_at (scene now) here mode.Value (next now) phrase ts ▸ one w (instr.Write (first && (i == 0))) ▸ coding.code_writes d w o (next now + (size (known d) phrase + 1)) (given_of (phrase_context (scene now)) (actuals_in (numbers_in (scene now)) rest))) (later first i))
-      r c e
   listed_step (list.Read on) r c e =
       remains_each here mode.Place phrase (held.Read (on && (i == 0)) (variable_type x.gives)) (left_use here (list.Read on) (i + 1) rest) (less (list.Read on)) refl kind refl
       (λ ts.
@@ -205,7 +194,6 @@ listed_more {old} {now} {b} {after} {m} {n} here u p actuals i x l is kind field
 star_marks : (u : ListUse) (q : Place) (rest : List TypedActual) (s : Scene) → use_marks s u (actuals_in (numbers_in s) (Star q ∷ rest)) ≡ use_marks s u (actuals_in (numbers_in s) rest)
 star_marks list.Subscripts q rest s = refl
 star_marks (list.Fields class) q rest s = refl
-star_marks (list.Write first) q rest s = refl
 star_marks (list.Read next) q rest s = refl
 star_marks list.ReadCard q rest s = refl
 
@@ -219,7 +207,6 @@ listed_star {old} {now} here u p actuals i q l is r =
 none_marks : (u : ListUse) (s : Scene) → use_marks s u (actuals_in (numbers_in s) []) ≡ 0
 none_marks list.Subscripts s = refl
 none_marks (list.Fields class) s = refl
-none_marks (list.Write first) s = refl
 none_marks (list.Read next) s = refl
 none_marks list.ReadCard s = refl
 

@@ -177,21 +177,18 @@ listed_ready e u actuals i a = item_ready (λ ys. IsCodableActuals e ys (UseSuit
     star : (v : ListUse) (s : Scene) (q : Place) (rest : typed.Actuals) → UseSuits v s (typed.actual_and (typed.Star q) rest) → UseSuits v s rest
     star list.Subscripts s q rest h = h
     star (list.Fields class) s q rest h = h
-    star (list.Write start) s q rest h = h
     star (list.Read on) s q rest h = h
     star list.ReadCard s q rest h = h
 
     given : (v : ListUse) (s : Scene) (n : typed.Node) (rest : typed.Actuals) → UseSuits v s (typed.actual_and (typed.Given n) rest) → UseSuits v s rest
     given list.Subscripts s n rest h = h.1
     given (list.Fields class) s n rest h = h.1
-    given (list.Write start) s n rest h = h.1
     given (list.Read on) s n rest h = h.1
     given list.ReadCard s n rest h = h.1
 
     first : (v : ListUse) (s : Scene) (n : typed.Node) (rest : typed.Actuals) → UseSuits v s (typed.actual_and (typed.Given n) rest) → NodeSuits s n
     first list.Subscripts s n rest h = h.0
     first (list.Fields class) s n rest h = h.0
-    first (list.Write start) s n rest h = h.0
     first (list.Read on) s n rest h = h.0
     first list.ReadCard s n rest h = h.0
 

@@ -5,3 +5,4 @@ pub mod Names
 pub mod Calls
 pub mod Blocks
 pub mod Programs
+pub mod Writes

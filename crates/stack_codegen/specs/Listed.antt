@@ -95,7 +95,6 @@ with_field e here (Some t) = appended (appended e here (held.Make t)) here held.
 abbrev pub behind : Emitter → Here → ListUse → ℕ → Option Gives → Emitter
 behind e here list.Subscripts n g = appended e here held.Push
 behind e here (list.Fields class) n g = with_field e here (field_at e.symbols class n)
-behind e here (list.Write first) n g = appended e here (held.Write (first && (n == 0)))
 behind e here (list.Read next) n g = appended e here (held.Read (next && (n == 0)) (variable_type g))
 behind e here list.ReadCard n g = appended e here (held.ReadCard (variable_type g))
 
@@ -104,7 +103,6 @@ behind e here list.ReadCard n g = appended e here (held.ReadCard (variable_type 
 abbrev pub use_code : Scene → Here → (k : ℕ) → ListUse → typed.Actuals → List ℕ → List code.Coded
 use_code s here k list.Subscripts actuals ts = coding.code_each (coding_context s ts here) (place_in s here) k (given_of (phrase_context s) actuals)
 use_code s here k (list.Fields class) actuals ts = coding.code_fields (coding_context s ts here) (place_in s here) k (map (kind_view s.given) (types_of s.symbols class)) (given_of (phrase_context s) actuals)
-use_code s here k (list.Write first) actuals ts = coding.code_writes (coding_context s ts here) (place_in s here) first k (given_of (phrase_context s) actuals)
 use_code s here k (list.Read next) actuals ts = coding.code_reads (coding_context s ts here) (place_in s here) next k (targets_of (phrase_context s) actuals)
 use_code s here k list.ReadCard actuals ts = coding.code_cards (coding_context s ts here) (place_in s here) k (targets_of (phrase_context s) actuals)
 

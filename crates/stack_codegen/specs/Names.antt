@@ -46,12 +46,13 @@ is_called (standing.Procedure x) = true
 is_called (standing.ProcedureFormal t e) = true
 is_called s = false
 
--- neither a variable nor called
+-- neither a variable, nor called, nor WRITE
 abbrev pub is_applied : Standing → Bool
 is_applied (standing.Variable t e) = false
 is_applied (standing.NameFormal t e) = false
 is_applied (standing.Procedure x) = false
 is_applied (standing.ProcedureFormal t e) = false
+is_applied (standing.Standard (standard.Write first)) = false
 is_applied s = true
 
 -- ---- what is done with a list of so many phrases behind it
@@ -63,9 +64,10 @@ abbrev pub standard_plan : Standard → Option ListPlan
 standard_plan (standard.Function op) = Some (record { begins = false; list = None; does = held.Unary op; whole = Some 1 })
 standard_plan (standard.Read next) = Some (transfer (list.Read next))
 standard_plan standard.ReadCard = Some (transfer list.ReadCard)
-standard_plan (standard.Write first) = Some (transfer (list.Write first))
+standard_plan (standard.Write first) = None
 standard_plan standard.IoControl = Some (record { begins = true; list = None; does = held.IoControl; whole = None })
 standard_plan standard.MaxInteger = None
+standard_plan (standard.Variable width) = None
 
 abbrev pub list_plan : Here → Mode → Standing → ℕ → Option ListPlan
 list_plan here u (standing.Array t e) n = Some (record { begins = false; list = Some list.Subscripts; does = held.Element u (here.level - e.level) e.position n; whole = Some (length_of t) })
@@ -75,10 +77,11 @@ list_plan here u (standing.Standard s) n = standard_plan s
 list_plan here u s n = None
 
 -- and without
-abbrev pub alone_instr : Standing → Option Instr
-alone_instr (standing.Class c) = Some (held.MakeRecordAlone c.class c.count)
-alone_instr (standing.Standard standard.MaxInteger) = Some (held.Constant (constant.Integer (pos 2147483647)))
-alone_instr s = None
+abbrev pub alone_instr : Mode → Standing → Option Instr
+alone_instr u (standing.Class c) = Some (held.MakeRecordAlone c.class c.count)
+alone_instr u (standing.Standard (standard.Variable width)) = Some (held.Standard u width)
+alone_instr u (standing.Standard standard.MaxInteger) = Some (held.Constant (constant.Integer (pos 2147483647)))
+alone_instr u s = None
 
 -- where no list is that it takes
 abbrev pub with_alone : Emitter → Here → Mode → Standing → Option Instr → Emitter

@@ -17,5 +17,6 @@ mod lists;
 mod loops;
 mod names;
 mod phrases;
+mod writes;
 
 pub use compiling::compile;

@@ -24,8 +24,6 @@ pub(crate) enum ListUse {
     Subscripts,
     /// The values of the fields of a class.
     Fields(Class),
-    /// What is written, on a new line or not.
-    Write { first: bool },
     /// What is read, from the next card on or not.
     Read { next: bool },
     /// The cards that are read.
@@ -124,10 +122,6 @@ fn behind(
     match list {
         ListUse::Subscripts => emitter.append(here, Instr::Push),
         ListUse::Fields(class) => field(emitter, here, class, position),
-        ListUse::Write { first } => {
-            let first = first && is_first;
-            emitter.append(here, Instr::Write { first })
-        }
         ListUse::Read { next } => {
             let next = next && is_first;
             emitter.append(here, Instr::Read { next, kind })

@@ -12,6 +12,7 @@ use crate::lists::{
     ListPlan, ListUse, emit_parts_of_given, emit_with_list, first_list, phrase_count,
 };
 use crate::phrases::emit_before;
+use crate::writes::emit_write;
 use algolw_tree::{Node, Standard, TypedActual, TypedList, TypedListKind};
 use code_emitter::Emitter;
 use stack_code::{Constant, Instr, Mode};
@@ -39,7 +40,7 @@ fn length_given(kind: Option<SimpleType>) -> u16
     }
 }
 
-/// What is done with the list of phrases that are read, or written.
+/// What is done with the list of phrases that are read.
 fn transfer(list: ListUse) -> ListPlan
     ensures { result ≡ names.transfer list }
 {
@@ -64,14 +65,13 @@ fn standard_plan(standard: Standard) -> Option<ListPlan>
         }),
         Standard::Read { next } => Some(transfer(ListUse::Read { next })),
         Standard::ReadCard => Some(transfer(ListUse::ReadCard)),
-        Standard::Write { first } => Some(transfer(ListUse::Write { first })),
         Standard::IoControl => Some(ListPlan {
             begins: true,
             list: None,
             does: Instr::IoControl,
             whole: None,
         }),
-        Standard::MaxInteger => None,
+        Standard::Write { first: _ } | Standard::MaxInteger | Standard::Variable(_) => None,
     }
 }
 
@@ -116,8 +116,8 @@ fn list_plan(here: Here, mode: Mode, standing: Standing, count: u32) -> Option<L
 }
 
 /// A name behind which no list is that it takes.
-fn alone_instr(standing: Standing) -> Option<Instr>
-    ensures { result ≡ names.alone_instr standing }
+fn alone_instr(mode: Mode, standing: Standing) -> Option<Instr>
+    ensures { result ≡ names.alone_instr mode standing }
 {
     match standing {
         Standing::Class(class) => Some(Instr::MakeRecordAlone {
@@ -127,6 +127,7 @@ fn alone_instr(standing: Standing) -> Option<Instr>
         Standing::Standard(Standard::MaxInteger) => {
             Some(Instr::Constant(Constant::Integer(2147483647)))
         }
+        Standing::Standard(Standard::Variable(width)) => Some(Instr::Standard { mode, width }),
         _ => None,
     }
 }
@@ -138,11 +139,11 @@ fn emit_name_alone(
     mode: Mode,
     standing: Standing,
 ) -> Result<u32, AllocError>
-    requires { names.AloneFits emitter.old (names.alone_instr standing) }
+    requires { names.AloneFits emitter.old (names.alone_instr mode standing) }
     ensures none { IfOk result (λ m. m ≡ 0) }
-    ensures made { OnOk result (emitter.new ≡ names.with_alone emitter.old here mode standing (names.alone_instr standing)) }
+    ensures made { OnOk result (emitter.new ≡ names.with_alone emitter.old here mode standing (names.alone_instr mode standing)) }
 {
-    match alone_instr(standing) {
+    match alone_instr(mode, standing) {
         Some(does) => emitter.alone(here, does),
         None => emitter.name(here, mode, standing),
     }
@@ -179,6 +180,9 @@ pub fn emit_named(
         }
         Standing::Procedure(_) | Standing::ProcedureFormal(_, _) => {
             emit_called(emitter, here, node, name, lists)
+        }
+        Standing::Standard(Standard::Write { first }) => {
+            emit_write(emitter, here, mode, node, name, first, lists)
         }
         _ => emit_applied(emitter, here, mode, node, name, lists),
     }

@@ -117,6 +117,7 @@ no_name_lines c s (entry.Turn p k) no_name no_procedure = refl
 no_name_lines c s (entry.Call k p) no_name no_procedure = refl
 no_name_lines c s (entry.Actual k) no_name no_procedure = refl
 no_name_lines c s entry.Aside no_name no_procedure = refl
+no_name_lines c s (entry.Widths w) no_name no_procedure = refl
 
 pub length_take_most : {A : Type 0} (k : ℕ) (xs : List A) → length (take k xs) ≤ k
 length_take_most zero xs = omega arith
@@ -150,6 +151,7 @@ names_append c s (entry.Turn p back ∷ xs) ys = names_append c s xs ys
 names_append c s (entry.Call head site ∷ xs) ys = names_append c s xs ys
 names_append c s (entry.Actual head ∷ xs) ys = names_append c s xs ys
 names_append c s (entry.Aside ∷ xs) ys = names_append c s xs ys
+names_append c s (entry.Widths w ∷ xs) ys = names_append c s xs ys
 
 -- names more, in 40 lines
 pub names_more : (c : CodeView) (s : State) (first n : ℕ) (e : Entry) (old : List (List ℕ)) → first ≤ n → slice_get s.store.entries n ≡ Some e →
@@ -201,6 +203,7 @@ module _ (c : CodeView) (s : State) where
   hidden (entry.Call head site) es names q = absurd (cc q)
   hidden (entry.Actual head) es names q = absurd (cc q)
   hidden entry.Aside es names q = refl
+  hidden (entry.Widths w) es names q = refl
 
   -- one that is
   marked : (e : Entry) (l : dump.Entry) (es : List machine.Entry) (names : List dump.Entry) → mark_line c e ≡ Some l → lines_of (entry_of c.given e ∷ es) names ≡ l ∷ (names ++ lines_of es [])
@@ -212,6 +215,7 @@ module _ (c : CodeView) (s : State) where
   marked (entry.Call head site) l es names q = ap (λ z. z ∷ (names ++ lines_of es [])) (cc q)
   marked (entry.Actual head) l es names q = ap (λ z. z ∷ (names ++ lines_of es [])) (cc q)
   marked entry.Aside l es names q = absurd (cc q)
+  marked (entry.Widths w) l es names q = absurd (cc q)
 
   abbrev names_of : (n end : ℕ) → List dump.Entry
   names_of n end = name_lines c s (between n end s.store.entries)

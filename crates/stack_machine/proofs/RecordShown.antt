@@ -20,5 +20,5 @@ by_number g id first [] k = refl
 by_number g id first (r ∷ rs) zero = refl
 by_number g id first (r ∷ rs) (suc k) = by_number g id (first + length r.fields) rs k
 
-pub record_found : (g : Given) (id : RecordId) (rs : List Record) → shown_record id (on_top_of (reverse (records_of g 0 rs)) id.0) ≡ shown_made g id (slice_get rs id.0)
-record_found g id rs = ap (shown_record id) (on_top_of-reverse (records_of g 0 rs) id.0) ∙ by_number g id 0 rs id.0
+pub record_found : (g : Given) (id : RecordId) (rs : List Record) → shown_record id (on_top_of (reverse (records_of g 2 rs)) id.0) ≡ shown_made g id (slice_get rs id.0)
+record_found g id rs = ap (shown_record id) (on_top_of-reverse (records_of g 2 rs) id.0) ∙ by_number g id 2 rs id.0

@@ -2,6 +2,7 @@
 use Rattle.std.proofs.Common.{◌≡◌, ℕ, List, Option, Some, None, refl}
 use Rattle.std.specs.Option.{option_map}
 use Rattle.value_ops.specs.declared.places.Place.{Place}
+use Rattle.algolw_tree.specs.declared.standard.Standard.TheVariants as standard
 use Rattle.program_meaning.specs.Translating as translating
 use Rattle.phrase_code.specs.Coding.{reading_of_name, source_of}
 use Rattle.stack_code.specs.Instr as instr
@@ -49,6 +50,7 @@ reading_same s ts here p (standing.Label e target) = refl
 -- whether it is a variable
 pub variable_same : (s : Scene) (x : Standing) → translating.is_variable (declared_for s x) ≡ is_variable x
 variable_same s standing.Unknown = refl
+variable_same s (standing.Standard (standard.Variable width)) = refl
 variable_same s (standing.Standard n) = refl
 variable_same s (standing.Variable t e) = refl
 variable_same s (standing.NameFormal t e) = refl

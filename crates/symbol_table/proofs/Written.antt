@@ -11,7 +11,7 @@ use Rattle.algolw_typing.specs.Typed.{At}
 use Rattle.algolw_typing.specs.Types.{Gives, is_place}
 use Rattle.program_meaning.specs.Phrases as phrase
 use Rattle.program_meaning.specs.Phrases.{Phrase, Phrases, Targets, Subscripts, Actuals, Actual, Items, Bounds, Decls, Name, Formal}
-use Rattle.program_meaning.specs.Translating.{Context, Declared, a_class, a_control, a_field, a_procedure, a_procedure_formal, a_standard_name, a_variable, an_array, Known, actual_of, actuals_of, bounds_of, chain_of, decl_of, decls_known, decls_of, declared_at, each_formal, first_of, formals_known, formals_of, given_of, is_logical_given, is_variable_node, items_of, kind_of, length_given, length_of, linked, name_at, named_of, names_at, negated, number_of, parts_of, perhaps_of, phrase_of, phrases_of, places_of, signed, statement_at, subscripts_of, targets_of, text_at, type_given, type_of_formal, value_type, written}
+use Rattle.program_meaning.specs.Translating.{Context, Declared, a_class, a_control, a_field, a_procedure, a_procedure_formal, a_standard_name, a_variable, an_array, Known, actual_of, actuals_of, bounds_of, chain_of, decl_of, decls_known, decls_of, declared_at, each_formal, first_of, formals_known, formals_of, given_of, is_logical_given, is_variable_node, items_of, kind_of, length_given, length_of, linked, name_at, named_of, names_at, negated, number_of, parts_of, perhaps_of, phrase_of, phrases_of, places_of, signed, statement_at, subscripts_of, targets_of, text_at, type_given, type_of_formal, value_type, written, role_of, roles_of, value_part, written_of}
 use Rattle.stack_code.specs.declared.heads.CodedName.{CodedName}
 use Rattle.symbol_table.specs.Contexts.{info_of}
 
@@ -117,7 +117,7 @@ module _ (a b : List NameInfo) (same : (x : Place) → text_at a x ≡ text_at b
     same_named k p f st x (a_field class m t) (typed.list_and (typed.OfActuals q given) rest) =
         same_parts k (length_of t) _ _ (ap (λ (z : Phrases). phrase.Field class m (first_of z)) (same_given k given)) rest
     same_named k p f st x (a_standard_name (standard.Function op)) (typed.list_and (typed.OfActuals q given) rest) = same_parts k 1 _ _ (ap (λ (z : Phrases). phrase.Unary op (first_of z)) (same_given k given)) rest
-    same_named k p f st x (a_standard_name (standard.Write on)) (typed.list_and (typed.OfActuals q values) rest) = ap (λ (z : Phrases). phrase.Write (statement_at f st) on z) (same_given k values)
+    same_named k p f st x (a_standard_name (standard.Write on)) (typed.list_and (typed.OfActuals q values) rest) = ap (λ (z : Phrases). phrase.Write (statement_at f st) on (roles_of k values) z) (same_written k values)
     same_named k p f st x (a_standard_name (standard.Read on)) (typed.list_and (typed.OfActuals q targets) rest) = ap (λ (z : Targets). phrase.Read (statement_at f st) on z) (same_targets k targets)
     same_named k p f st x (a_standard_name standard.ReadCard) (typed.list_and (typed.OfActuals q targets) rest) = ap (λ (z : Targets). phrase.ReadCard (statement_at f st) z) (same_targets k targets)
     same_named k p f st x (a_standard_name standard.IoControl) (typed.list_and (typed.OfActuals q given) rest) = ap (λ (z : Phrases). phrase.IoControl (statement_at f st) (first_of z)) (same_given k given)
@@ -133,6 +133,11 @@ module _ (a b : List NameInfo) (same : (x : Place) → text_at a x ≡ text_at b
     same_given k typed.no_actuals = refl
     same_given k (typed.actual_and (typed.Star q) rest) = same_given k rest
     same_given k (typed.actual_and (typed.Given n) rest) = two phrase.phrase_and (same_phrase k n) (same_given k rest)
+
+    same_written : (k : List Known) (actuals : typed.Actuals) → written_of (C k) actuals ≡ written_of (D k) actuals
+    same_written k typed.no_actuals = refl
+    same_written k (typed.actual_and (typed.Star q) rest) = same_written k rest
+    same_written k (typed.actual_and (typed.Given n) rest) = two phrase.phrase_and (ap (value_part (role_of k n)) (same_phrase k n)) (same_written k rest)
 
     same_targets : (k : List Known) (actuals : typed.Actuals) → targets_of (C k) actuals ≡ targets_of (D k) actuals
     same_targets k typed.no_actuals = refl

@@ -7,6 +7,7 @@ use Rattle.stack_code.specs.declared.instructions.Source.TheVariants as source
 use Rattle.symbol_table.specs.declared.here.Here.{Here}
 use Rattle.symbol_table.specs.declared.standings.Entry.{Entry}
 use Rattle.symbol_table.specs.declared.standings.Standing.{Standing}
+use Rattle.algolw_tree.specs.declared.standard.Standard.TheVariants as standard
 use Rattle.symbol_table.specs.declared.standings.Standing.TheVariants as standing
 
 -- ---- tables of names
@@ -94,4 +95,5 @@ is_variable (standing.Variable t e) = true
 is_variable (standing.NameFormal t e) = true
 is_variable (standing.Array t e) = true
 is_variable (standing.Field c n t) = true
+is_variable (standing.Standard (standard.Variable width)) = true
 is_variable s = false

@@ -128,6 +128,7 @@ impl Standing {
                 | Standing::NameFormal(_, _)
                 | Standing::Array(_, _)
                 | Standing::Field(_, _, _)
+                | Standing::Standard(Standard::Variable(_))
         )
     }
 }

@@ -1,5 +1,5 @@
 -- A kind that is none of some, as the rules see it.
-use Rattle.std.proofs.Common.{◌≡◌, ℕ, Bool, true, false, List, refl, sym}
+use Rattle.std.proofs.Common.{◌≡◌, ℕ, Bool, true, false, List, refl, sym, ap}
 use Rattle.std.specs.declared.boxed.Box.{Box}
 use Rattle.std.specs.declared.alloc.Global.{Global}
 use Rattle.value_ops.specs.declared.places.Place.{Place}
@@ -16,7 +16,8 @@ use Rattle.algolw_tree.specs.Tree as tree
 use Rattle.algolw_tree.specs.View.{kind_tree}
 use Rattle.algolw_typing.specs.Actuals.{Wanted}
 use Rattle.algolw_typing.specs.Scopes.{Scopes}
-use Rattle.algolw_typing.specs.Typing.{Out, given, left_of, no_variable_left, phrase_given}
+use Rattle.algolw_typing.specs.Typing.{Out, PartOut, given, left_of, no_variable_left, phrase_given, setting_given}
+use Rattle.typed_phrases.specs.Settings.{sets_width}
 
 -- ---- a phrase that no name begins
 
@@ -46,12 +47,14 @@ left_at path p f k h = refl
 pub no_variable : (path : Scopes) (p f : Place) (k : Kind) → begins_with_name k ≡ false → no_variable_left ≡ left_of path (tree.At p f (kind_tree k))
 no_variable path p f k h = left_at path p f (kind_tree k) (no_name k h)
 
-given_at : (path : Scopes) (w : Wanted) (p f : Place) (k : tree.Kind) (o : Out) → is_name k ≡ false → phrase_given false o ≡ given path w (tree.At p f k) o
-given_at path w p f (tree.Named x lists) o h = cc
-given_at path w p f k o h = refl
+given_at : (path : Scopes) (w : Wanted) (p f : Place) (k : tree.Kind) (o : Out) → is_name k ≡ false → sets_width path w (tree.At p f k) ≡ false → phrase_given false o ≡ given path w (tree.At p f k) o
+given_at path w p f (tree.Named x lists) o h s = cc
+given_at path w p f (tree.Assign a b) o h s = ap (λ (q : Bool). elim q as (λ _. PartOut) [ true ↦ setting_given o | false ↦ phrase_given false o ]) (sym s)
+given_at path w p f k o h s = refl
 
-pub no_name_given : (path : Scopes) (w : Wanted) (p f : Place) (k : Kind) (o : Out) → begins_with_name k ≡ false → phrase_given false o ≡ given path w (tree.At p f (kind_tree k)) o
-no_name_given path w p f k o h = given_at path w p f (kind_tree k) o (no_name k h)
+-- nor a setting
+pub no_name_given : (path : Scopes) (w : Wanted) (p f : Place) (k : Kind) (o : Out) → begins_with_name k ≡ false → sets_width path w (tree.At p f (kind_tree k)) ≡ false → phrase_given false o ≡ given path w (tree.At p f (kind_tree k)) o
+no_name_given path w p f k o h s = given_at path w p f (kind_tree k) o (no_name k h) s
 
 -- ---- which kinds these are
 

@@ -4,3 +4,4 @@ pub mod Defaults
 pub mod InLists
 pub mod Readings
 pub mod Together
+pub mod WidthSettings

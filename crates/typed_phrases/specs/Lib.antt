@@ -5,4 +5,5 @@ pub mod Fronts
 pub mod FrontViews
 pub mod Ranges
 pub mod Readings
+pub mod Settings
 pub mod Prefixes

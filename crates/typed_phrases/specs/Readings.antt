@@ -1,20 +1,23 @@
 -- A phrase in a list, as it is read there, by what was found of it as a phrase.
 use Rattle.std.specs.Prelude.{◌≡◌, ◌++◌, false, List, Option, map}
 use Rattle.value_ops.specs.declared.places.Place.{Place}
-use Rattle.algolw_typing.specs.Meanings.{Part, a_star, a_phrase, typeless}
+use Rattle.algolw_typing.specs.Meanings.{Part, a_star, a_phrase, a_setting, typeless}
 use Rattle.algolw_typing.specs.Names.{Entry}
 use Rattle.algolw_typing.specs.Scopes.{Known}
 use Rattle.algolw_typing.specs.Typed as typed
 use Rattle.algolw_typing.specs.Typing.{Out, PartOut, ListsOut, counted, named_out, parts_of_lists}
+use Rattle.algolw_typing.specs.Types.{Statement}
 use Rattle.algolw_typing.specs.Verdicts.{Verdict, Good, Silent, fault_of, type_of}
 use Rattle.typing_rules.specs.MeaningView as meaning_view
 use Rattle.typing_rules.specs.View as view
 use Rattle.typed_phrases.specs.declared.actuals.Given.{Given}
 
--- what a part is read as where it isn't asked whether it is a variable: what isn't read as a phrase has no type
+-- what a part is read as where it isn't asked whether it is a variable: what isn't read as a phrase has no type, and a
+-- setting is a statement
 abbrev pub plain : Part → Part
 plain a_star = a_star
 plain (a_phrase v g) = a_phrase false g
+plain a_setting = a_phrase false Statement
 plain part = typeless
 
 abbrev pub without_type : Verdict → Verdict

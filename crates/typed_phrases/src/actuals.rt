@@ -9,6 +9,7 @@ ghost use Rattle.algolw_typing.specs.Verdicts.{type_of};
 ghost use Rattle.typing_rules.specs.MeaningView as view;
 ghost use Rattle.typing_rules.specs.View as types;
 ghost use Rattle.typed_phrases.specs.Applications.{Applies, IsApplication, is_application};
+ghost use Rattle.typed_phrases.specs.Settings.{sets_width};
 ghost use Rattle.typed_phrases.specs.Readings.{ListReads, NameReads, Reads, plain, without_type};
 
 use crate::operators::given;
@@ -120,7 +121,7 @@ fn plain_part(part: Part<'_>) -> Part<'_>
 {
     match part {
         Part::Star => Part::Star,
-        Part::Statement(_) => Part::Statement(false),
+        Part::Statement(_) | Part::Setting => Part::Statement(false),
         Part::Value(_, of) => Part::Value(false, of),
         _ => Part::Typeless,
     }
@@ -221,14 +222,15 @@ fn listed_given<'a>(
     }
 }
 
-/// A phrase in a list, as what is wanted there. It is no name with one list of actuals.
+/// A phrase in a list, as what is wanted there. It is no name with one list of actuals, and no setting.
 pub fn read<'a>(
     path: &KnownPath<'_, '_, 'a>,
     wanted: Wanted<'a>,
     phrase: &Phrase,
     found: Verdict<'a>,
 ) -> Given<'a>
-    requires { is_application (kind_tree phrase.now.kind) ≡ false }
+    requires application { is_application (kind_tree phrase.now.kind) ≡ false }
+    requires setting { sets_width path.now (view.wanted wanted) (tree phrase.now) ≡ false }
     ensures { let o = typed_phrase path.now (tree phrase.now) in types.verdict found.entry ≡ o.verdict →
         Reads result o (rules.given path.now (view.wanted wanted.entry) (tree phrase.now) o) }
 {

@@ -7,13 +7,13 @@ use Rattle.algolw_tree.specs.declared.standard.Basic.{Basic}
 use Rattle.algolw_tree.specs.declared.standard.Basic.TheVariants as basic
 use Rattle.algolw_typing.specs.Types.{ValueType, Integer, Logical, Bits, Str, Reference, Statement, Simple, is_same}
 use Rattle.algolw_typing.specs.Verdicts.{Verdict, Good, Fault, Silent, value, unless}
-use Rattle.algolw_typing.specs.Meanings.{FormalType, Part, a_star, a_phrase, as_array, as_procedure, with_formals, not_read, typeless, of_phrase, right_number, field_values, values_read, variables_read, field_of, basic_type, is_basic}
-use Rattle.typing_rules.specs.MeaningView.{values_of, refers_to}
+use Rattle.algolw_typing.specs.Meanings.{FormalType, Part, a_star, a_phrase, a_setting, as_array, as_procedure, with_formals, not_read, typeless, of_phrase, right_number, field_values, values_read, variables_read, field_of, basic_type, is_basic}
+use Rattle.typing_rules.specs.MeaningView.{placed_value, values_of, refers_to}
 
--- each part is a value
+-- each part that is no setting is a value
 abbrev pub each_value : Place → List Part → Verdict → Verdict
 each_value p [] row = row
-each_value p (part ∷ parts) row = of_phrase part (λ g. value p g (λ t. each_value p parts row))
+each_value p (part ∷ parts) row = placed_value p part (each_value p parts row)
 
 -- each part is a variable
 abbrev pub each_variable : Place → List Part → Verdict → Verdict
@@ -23,6 +23,7 @@ each_variable p (part ∷ parts) row = Fault 38 p
 
 pub values_read_each : (p : Place) (parts : List Part) (row : List ValueType → Verdict) → values_read p parts row ≡ each_value p parts (row (values_of parts))
 values_read_each p [] row = refl
+values_read_each p (a_setting ∷ parts) row = values_read_each p parts row
 values_read_each p (a_star ∷ parts) row = refl
 values_read_each p (a_phrase v Statement ∷ parts) row = refl
 values_read_each p (a_phrase v (Simple t) ∷ parts) row = values_read_each p parts (λ ts. row (t ∷ ts))
@@ -34,6 +35,7 @@ values_read_each p (typeless ∷ parts) row = refl
 
 pub variables_read_each : (p : Place) (parts : List Part) (row : List ValueType → Verdict) → variables_read p parts row ≡ each_variable p parts (row (values_of parts))
 variables_read_each p [] row = refl
+variables_read_each p (a_setting ∷ parts) row = refl
 variables_read_each p (a_star ∷ parts) row = refl
 variables_read_each p (a_phrase true Statement ∷ parts) row = refl
 variables_read_each p (a_phrase true (Simple t) ∷ parts) row = variables_read_each p parts (λ ts. row (t ∷ ts))

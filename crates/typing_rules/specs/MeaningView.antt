@@ -41,6 +41,7 @@ meaning (name.Standard s) = meanings.a_standard s
 abbrev pub part : Part → meanings.Part
 part behind.Star = meanings.a_star
 part (behind.Statement v) = meanings.a_phrase v types.Statement
+part behind.Setting = meanings.a_setting
 part (behind.Value v t) = meanings.a_phrase v (types.Simple (value_type t))
 part (behind.Array t n) = meanings.as_array (value_type t) n
 part (behind.Procedure result_type) = meanings.as_procedure (option_map value_type result_type)
@@ -69,6 +70,11 @@ abbrev pub values_of : List meanings.Part → List types.ValueType
 values_of [] = []
 values_of (meanings.a_phrase v (types.Simple t) ∷ parts) = t ∷ values_of parts
 values_of (part ∷ parts) = values_of parts
+
+-- 35 a part that is a statement and no setting
+abbrev pub placed_value : Place → meanings.Part → verdicts.Verdict → verdicts.Verdict
+placed_value p meanings.a_setting row = row
+placed_value p part row = meanings.of_phrase part (λ g. verdicts.value p g (λ t. row))
 
 -- whether a type is a reference whose classes include this one
 abbrev pub refers_to : types.ValueType → Place → Bool

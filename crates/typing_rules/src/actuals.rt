@@ -399,7 +399,7 @@ fn subscripts(place: Place, parts: &[Part<'_>]) -> Result<(), NoType>
     for part in parts {
         match part {
             Part::Star => {}
-            Part::Statement(_) => return fault(place, Diagnostic::VALUE_NEEDED),
+            Part::Statement(_) | Part::Setting => return fault(place, Diagnostic::VALUE_NEEDED),
             Part::Value(_, of) => integer(place, PhraseType::Value(*of))?,
             _ => return Err(NoType::Silent),
         }

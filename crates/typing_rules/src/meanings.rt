@@ -53,7 +53,7 @@ pub enum Meaning<'a> {
     Label,
     /// A control name of a FOR.
     Control,
-    /// A standard procedure or function.
+    /// A standard procedure, function or variable.
     Standard(Standard),
 }
 
@@ -64,6 +64,8 @@ pub enum Part<'a> {
     Star,
     /// A phrase that is a statement. Whether it is a variable is kept, though none is.
     Statement(bool),
+    /// An assignment to a standard variable, in a list of phrases.
+    Setting,
     /// A phrase with a value of a type: whether it is a variable.
     Value(bool, ValueType<'a>),
     /// An array, or a subarray, which has as many dimensions as stars.
@@ -85,7 +87,10 @@ impl<'a> Meaning<'a> {
     {
         matches!(
             self,
-            Meaning::Variable(_) | Meaning::Array(_, _) | Meaning::Field(_, _)
+            Meaning::Variable(_)
+                | Meaning::Array(_, _)
+                | Meaning::Field(_, _)
+                | Meaning::Standard(Standard::Variable(_))
         )
     }
 }
@@ -122,7 +127,7 @@ pub fn alone_row<'a>(
             Ok(gives_of(result_type))
         }
         Meaning::Class(_) => Ok(reference_to(arena, declared)?),
-        Meaning::Control | Meaning::Standard(Standard::MaxInteger) => {
+        Meaning::Control | Meaning::Standard(Standard::MaxInteger | Standard::Variable(_)) => {
             Ok(PhraseType::Value(ValueType::Integer))
         }
         Meaning::Procedure(_, _) | Meaning::Standard(_) => {
@@ -157,7 +162,7 @@ pub fn base_row<'a>(
         Meaning::Variable(value_type)
         | Meaning::Procedure(Some(value_type), [])
         | Meaning::ProcedureFormal(Some(value_type)) => Ok(PhraseType::Value(value_type)),
-        Meaning::Control | Meaning::Standard(Standard::MaxInteger) => {
+        Meaning::Control | Meaning::Standard(Standard::MaxInteger | Standard::Variable(_)) => {
             Ok(PhraseType::Value(ValueType::Integer))
         }
         Meaning::Label => fault(place, Diagnostic::NAME_NOT_USED_SO),
@@ -217,13 +222,13 @@ pub(crate) fn right_number(place: Place, number: usize, parts: &[Part<'_>]) -> R
     )
 }
 
-/// What a phrase in a list gives.
+/// What a phrase in a list gives; a setting is a statement.
 fn of_phrase<'a>(part: Part<'a>) -> Result<PhraseType<'a>, NoType>
     ensures { (row : types.Gives → verdicts.Verdict) → view.after result (λ g. row (phrase_type g))
         ≡ meanings.of_phrase (view.part part.entry) row }
 {
     match part {
-        Part::Statement(_) => Ok(PhraseType::Statement),
+        Part::Statement(_) | Part::Setting => Ok(PhraseType::Statement),
         Part::Value(_, of) => Ok(PhraseType::Value(of)),
         _ => Err(NoType::Silent),
     }
@@ -339,14 +344,38 @@ pub(crate) fn field_row<'a>(
     Ok(PhraseType::Value(field))
 }
 
-/// 35 where any part is a statement.
+/// Whether any part is no setting.
+fn some_placed(parts: &[Part<'_>]) -> bool
+    ensures { result ≡ meanings.some_placed (map view.part parts.now) }
+{
+    for part in parts {
+        if !matches!(part, Part::Setting) {
+            return true;
+        }
+    }
+    false
+}
+
+/// 35 a part that is a statement and no setting.
+fn placed_value(place: Place, part: Part<'_>) -> Result<(), NoType>
+    ensures { (row : verdicts.Verdict) → view.after result (λ _. row)
+        ≡ view.placed_value place (view.part part.entry) row }
+{
+    match part {
+        Part::Value(_, _) | Part::Setting => Ok(()),
+        Part::Statement(_) => fault(place, Diagnostic::VALUE_NEEDED),
+        _ => Err(NoType::Silent),
+    }
+}
+
+/// 35 where any part is a statement and no setting.
 fn values(place: Place, parts: &[Part<'_>]) -> Result<(), NoType>
     ensures { (row : List types.ValueType → verdicts.Verdict) →
         view.after result (λ _. row (view.values_of (map view.part parts.now)))
         ≡ meanings.values_read place (map view.part parts.now) row }
 {
     for part in parts {
-        value(place, of_phrase(*part)?)?;
+        placed_value(place, *part)?;
     }
     Ok(())
 }
@@ -395,11 +424,12 @@ fn card_strings(place: Place, parts: &[Part<'_>]) -> Result<(), NoType>
     Ok(())
 }
 
-/// WRITE and WRITEON, at the name.
+/// WRITE and WRITEON, at the name: some part is no setting.
 fn write_row<'a>(place: Place, parts: &[Part<'a>]) -> Verdict<'a>
     ensures { verdict result ≡ meanings.write_row place (map view.part parts.now) }
 {
     no_star(place, parts)?;
+    unless(some_placed(parts), Diagnostic::WRONG_NUMBER_OF_PARTS, place)?;
     values(place, parts)?;
     no_references(place, parts)?;
     Ok(PhraseType::Statement)
@@ -457,7 +487,7 @@ fn one_value_row<'a>(
     Ok(gives)
 }
 
-/// A standard procedure or function with a list, at the name.
+/// A standard name with a list, at the name.
 pub(crate) fn standard_row<'a>(place: Place, standard: Standard, parts: &[Part<'a>]) -> Verdict<'a>
     ensures { verdict result ≡ meanings.standard_row place standard (map view.part parts.now) }
 {
@@ -470,6 +500,8 @@ pub(crate) fn standard_row<'a>(place: Place, standard: Standard, parts: &[Part<'
         Standard::ReadCard => read_card_row(place, parts),
         Standard::Write { first: _ } => write_row(place, parts),
         Standard::IoControl => one_value_row(place, Basic::Integer, parts, PhraseType::Statement),
-        Standard::MaxInteger => fault(place, Diagnostic::NAME_NOT_USED_SO),
+        Standard::MaxInteger | Standard::Variable(_) => {
+            fault(place, Diagnostic::NAME_NOT_USED_SO)
+        }
     }
 }

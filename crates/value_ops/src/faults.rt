@@ -36,10 +36,12 @@ pub enum Fault {
     ShiftNegative,
     /// F16: no character has this code.
     CodeOutsideRange,
+    /// F17: a value that is to be written asks for columns or blanks that are outside their range.
+    WidthOutOfRange,
 }
 
 impl Fault {
-    /// Its number, 1 to 16.
+    /// Its number, 1 to 17.
     pub fn number(self) -> u8
         ensures { result ≡ fault_number self }
     {
@@ -67,6 +69,7 @@ impl Fault {
             Fault::StepZero => b"STEP ZERO",
             Fault::ShiftNegative => b"SHIFT NEGATIVE",
             Fault::CodeOutsideRange => b"CODE OUTSIDE RANGE",
+            Fault::WidthOutOfRange => b"WIDTH OUT OF RANGE",
         }
     }
 }

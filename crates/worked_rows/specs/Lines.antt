@@ -1,11 +1,12 @@
 -- The lines of what is printed. Decks of the manual and of `algolw_meaning` show the columns of most values.
-use Rattle.std.specs.Prelude.{◌≡◌, ℕ, pos, List, [], ◌∷◌, ◌++◌, map, replicate, Some, None, Result, Ok, Err, codes}
+use Rattle.std.specs.Prelude.{◌≡◌, ℕ, ℤ, pos, true, List, [], ◌∷◌, ◌++◌, map, replicate, Some, None, Result, Ok, Err, codes}
 use Rattle.std.specs.List.{flat_map}
 use Rattle.short_text.specs.Blanks.{blanks}
 use Rattle.value_ops.specs.declared.faults.Limit.{Limit}
 use Rattle.value_ops.specs.declared.faults.Limit.TheVariants as limit
 use Rattle.value_ops.specs.declared.values.Value.{Value}
-use Rattle.value_ops.specs.declared.values.Value.TheVariants.{Integer, Str, Reference}
+use Rattle.value_ops.specs.declared.values.Value.TheVariants.{Integer, Logical, Str, Reference}
+use Rattle.output_editing.specs.declared.widths.Widths.{Widths}
 use Rattle.output_editing.specs.Layout.{Piece, Break}
 use Rattle.output_editing.specs.Written.{written_first, written_on}
 use Rattle.output_editing.specs.Page.{page_of, answer}
@@ -13,14 +14,26 @@ use Rattle.worked_rows.specs.Integers.{minus}
 
 -- ---- what is printed
 
+-- the widths with which a job begins
+abbrev pub usual : Widths
+usual = record { integer = 14; blanks = 2 }
+
 -- the values of a WRITEON
 abbrev pub write_on : List Value → List Piece
-write_on values = flat_map written_on values
+write_on values = flat_map (λ value. written_on value usual) values
 
 -- those of a WRITE
 abbrev pub write : List Value → List Piece
 write [] = []
-write (value ∷ values) = written_first value ++ write_on values
+write (value ∷ values) = written_first value usual ++ write_on values
+
+-- an integer with so many columns, and so many blanks behind it
+abbrev pub integer : ℤ → (columns blanks : ℕ) → List Piece
+integer number columns blanks = written_on (Integer number) (record { integer = columns; blanks = blanks })
+
+-- a truth value with so many blanks behind it
+abbrev pub truth : ℕ → List Piece
+truth blanks = written_on (Logical true) (record { integer = 1; blanks = blanks })
 
 -- the end of a line
 abbrev pub end_line : List Piece
@@ -71,6 +84,22 @@ ends =
     ∷ (write (null ∷ []) ++ write (string 1 ∷ Reference (Some (record { 0 = 1 })) ∷ []) ++ write (null ∷ []) ++ end_line, codes "A" ∷ [])
     ∷ []
 
+-- ---- widths
+
+abbrev pub widths : List LineRow
+widths =
+    (integer (pos 7) 3 0 ++ integer (pos 12345) 3 0, codes "  712345" ∷ [])
+    -- the columns, or those of the text, where these are more, are what must fit
+    ∷ (integer (pos 1) 127 0 ++ integer (pos 2) 5 0 ++ integer (pos 3) 6 0, (spaced 126 (codes "1    2")) ∷ codes "     3" ∷ [])
+    ∷ (integer (pos 1) 131 0 ++ integer (pos 2) 1 0, spaced 130 (codes "12") ∷ [])
+    ∷ (integer (pos 1) 131 0 ++ integer (pos 22) 1 0, spaced 130 (codes "1") ∷ codes "22" ∷ [])
+    ∷ (integer (minus 2147483648) 11 1 ++ integer (minus 2147483648) 10 0 ++ integer (pos 1) 1 0, codes "-2147483648 -21474836481" ∷ [])
+    -- blanks that don't fit are left out, and don't go on on the next line
+    ∷ (integer (pos 7) 132 132 ++ integer (pos 8) 132 132, spaced 131 (codes "7") ∷ spaced 131 (codes "8") ∷ [])
+    ∷ (integer (pos 1) 130 9 ++ write_on (string 1 ∷ []), spaced 129 (codes "1") ∷ codes "A" ∷ [])
+    ∷ (truth 0 ++ truth 132 ++ truth 2, codes "  TRUE  TRUE" ∷ codes "  TRUE" ∷ [])
+    ∷ []
+
 -- ---- limits
 
 -- the answer to the last write
@@ -101,6 +130,7 @@ limits =
 pub record LinesArePrinted : Type 0 where
   -- under the greatest limit
   pub lines : map (λ (r : LineRow). (page_of 500 r.0).lines) ends ≡ map (λ (r : LineRow). r.1) ends
+  pub by_widths : map (λ (r : LineRow). (page_of 500 r.0).lines) widths ≡ map (λ (r : LineRow). r.1) widths
   pub answers : map (λ (r : LineRow). answer 500 r.0) ends ≡ map (λ (r : LineRow). allowed) ends
   -- under the limits of the rows
   pub limited_lines : map (λ (r : LimitRow). (page_of r.0 r.1).lines) limits ≡ map (λ (r : LimitRow). r.3) limits

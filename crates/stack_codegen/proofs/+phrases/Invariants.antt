@@ -14,6 +14,7 @@ use Rattle.stack_codegen.proofs.Chains.{Chained, chained}
 use Rattle.stack_codegen.proofs.ListParts.{ListedLeft}
 use Rattle.stack_codegen.proofs.NodeSizes.{node_size, nothing, perhaps_size, size, size_links, size_actuals, size_lists, size_nodes, size_bounds, size_decl, size_decls, size_items}
 use Rattle.stack_codegen.proofs.StringParts.{StringLeft, whole_string}
+use Rattle.stack_codegen.proofs.WriteParts.{WritesLeft}
 use Rattle.stack_codegen.proofs.ValueParts.{ValuesUnderWay}
 use Rattle.stack_codegen.specs.Codable.{choices_in, node_in}
 use Rattle.stack_codegen.specs.Operations.{first_wanted}
@@ -86,6 +87,18 @@ decreases-lists::emit_listed l = 1 + size_actuals (actuals_in nothing l.actuals.
 
 abbrev pub invariant-lists::emit_listed-loop-actual : goal.invariant-lists::emit_listed-loop-actual
 invariant-lists::emit_listed-loop-actual l = record { left : ListedLeft l.fn.emitter l.emitter l.here l.list l.position l.actuals l.actual-index l.marks; within : l.position ≤ l.actual-index }
+
+abbrev pub decreases-writes::emit_write : goal.decreases-writes::emit_write
+decreases-writes::emit_write l = 6 + size_lists (lists_in nothing l.lists.now)
+
+abbrev pub decreases-writes::emit_writes : goal.decreases-writes::emit_writes
+decreases-writes::emit_writes l = 4 + size_actuals (actuals_in nothing l.actuals.now)
+
+abbrev pub invariant-writes::emit_writes-loop-actual : goal.invariant-writes::emit_writes-loop-actual
+invariant-writes::emit_writes-loop-actual l = WritesLeft l.fn.emitter l.emitter l.here l.first l.writing l.actuals l.actual-index l.marks
+
+abbrev pub decreases-writes::emit_written : goal.decreases-writes::emit_written
+decreases-writes::emit_written l = 2 + node_size l.node.now
 
 abbrev pub decreases-actuals::emit_actual : goal.decreases-actuals::emit_actual
 decreases-actuals::emit_actual l = 4 + node_size l.node.now

@@ -1,4 +1,4 @@
-use Rattle.std.proofs.Common.{◌≡◌, false, sym, ◌∙◌, subst}
+use Rattle.std.proofs.Common.{◌≡◌, false, ◌∙◌, subst}
 use Rattle.cell_store.specs.Words.{is_wide}
 use Rattle.machine_rows.specs.Answers.{IsAnswered}
 use Rattle.machine_rows.proofs.Tops.{narrow_of}

@@ -1,6 +1,6 @@
 use Rattle.std.proofs.Common.{sym, ap, ◌∙◌, subst}
 use Rattle.machine_rows.specs.Seen.{Comes, IsClear, machine_of, use_of}
-use Rattle.machine_rows.proofs.Fields.{row, placed, field_wanted, field_reference, field_row_is, has_field, field_is}
+use Rattle.machine_rows.proofs.Fields.{placed, field_wanted, field_reference, field_row_is, has_field, field_is}
 use Rattle.machine_rows.proofs.record_rows.field.Goals as goal
 
 pub wanted-purpose-requires : goal.wanted-purpose-requires

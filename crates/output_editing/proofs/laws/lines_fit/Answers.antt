@@ -1,4 +1,4 @@
-use Rattle.output_editing.proofs.Widths.{lines_fit}
+use Rattle.output_editing.proofs.Within.{lines_fit}
 use Rattle.output_editing.proofs.laws.lines_fit.Goals as goal
 
 pub returns : goal.returns

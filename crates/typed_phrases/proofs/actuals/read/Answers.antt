@@ -31,7 +31,7 @@ returns-in-Named c =
 
 pub listed_given-requires : goal.listed_given-requires
 listed_given-requires c =
-    ap is_application (sym (listed_at c.args.phrase.now.kind c.in-Listed.listed c.deref.result.now c.in-Listed.is c.deref.ensures)) ∙ c.requires
+    ap is_application (sym (listed_at c.args.phrase.now.kind c.in-Listed.listed c.deref.result.now c.in-Listed.is c.deref.ensures)) ∙ c.requires.application
 
 pub returns-in-Listed : goal.returns-in-Listed
 returns-in-Listed c =
@@ -50,5 +50,5 @@ returns-in_default c same =
     let path = c.args.path.now in
     let w = view.wanted c.args.wanted in
     let o = typed_phrase path (tree.At own.place own.first (kind_tree own.kind)) in
-    subst (Reads c.phrase_given.result o) (no_name_given path w own.place own.first own.kind o (no_name_begins own.kind c.in_default.not-Named (no_applied own.kind c.requires) c.in_default.not-Listed))
+    subst (Reads c.phrase_given.result o) (no_name_given path w own.place own.first own.kind o (no_name_begins own.kind c.in_default.not-Named (no_applied own.kind c.requires.application) c.in_default.not-Listed) c.requires.setting)
     (as_phrase path own.place own.first (kind_tree own.kind) c.phrase_given.result (types.verdict c.args.found) false (ap types.verdict c.phrase_given.ensures.verdict) c.phrase_given.ensures.part same)
