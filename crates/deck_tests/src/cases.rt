@@ -6,8 +6,3 @@ use std::process::Abort;
 pub(crate) fn see(rt: &impl Abort, case: &str, holds: bool) {
     assert!(rt; holds, "{case}");
 }
-
-/// Sees that this holds of the case with this number, in pieces of so many bytes.
-pub(crate) fn see_in(rt: &impl Abort, number: usize, piece: usize, holds: bool) {
-    assert!(rt; holds, "{number}, in pieces of {piece}");
-}
