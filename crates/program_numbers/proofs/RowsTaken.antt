@@ -24,10 +24,11 @@ pub record Row {S X W : Type 0} (none : W) (and : X → W → W) (onto : List X 
   pub all_more : (s : S) (ss : List S) (found : List Found) → all (s ∷ ss) found ≡ (and (one s found).0 (all ss (one s found).1).0, (all ss (one s found).1).1)
 
 module _ {S Y X W : Type 0} (n : Numbering) (V : Numbers → Y → X) (none : W) (and : X → W → W) (onto : List X → W → W) (all : List S → Taking W) (one : S → Taking X) (row : Row none and onto all one) where
-  pub start : (a : Classes) (ss : List S) (found : List Found) → SoFar n a a (λ ns. map (V ns) []) onto (all ss found) (all (drop 0 ss) found)
-  start a ss found = record {
+  -- nothing is made before the first part
+  pub start : (a : Classes) (ss : List S) (found : List Found) (ys : List Y) → ys ≡ [] → SoFar n a a (λ ns. map (V ns) ys) onto (all ss found) (all (drop 0 ss) found)
+  start a ss found ys empty = record {
     before = [];
-    made = makes n a (λ ns. map (V ns) []) [] (λ sets. refl);
+    made = makes n a (λ ns. map (V ns) ys) [] (λ sets. ap (map (V (numbers_in n sets))) empty);
     left = ap {B = W × List Found} (λ w. (w, (all ss found).1)) (sym (row.onto_none (all ss found).0));
   }
 

@@ -21,12 +21,6 @@ use Rattle.algolw_tree.specs.declared.phrases.Listed.{out-Listed}
 use Rattle.algolw_tree.specs.declared.phrases.Part.{Part}
 use Rattle.algolw_tree.specs.declared.phrases.Phrase.{Phrase}
 use Rattle.algolw_tree.specs.declared.phrases.ProcDecl.{out-ProcDecl}
-use Rattle.algolw_tree.specs.declared.programs.TypedActual.{TypedActual}
-use Rattle.algolw_tree.specs.declared.programs.TypedLink.{TypedLink}
-use Rattle.algolw_tree.specs.declared.programs.TypedList.{TypedList}
-use Rattle.algolw_tree.specs.declared.programs.TypedPart.{TypedPart}
-use Rattle.algolw_tree.specs.declared.programs.Node.{Node}
-use Rattle.algolw_tree.specs.declared.programs.TypedBound.{TypedBound}
 use Rattle.algolw_typing.specs.Known.{KnowsDeclared, KnowsFormals, KnowsResult}
 use Rattle.algolw_typing.specs.ProgramView as program
 use Rattle.algolw_typing.specs.ProgramView.{nowhere}
@@ -44,7 +38,7 @@ use Rattle.program_numbers.specs.Taken.{actual_taken, actuals_taken, bound_taken
 use Rattle.program_numbers.proofs.NodeMaking.{node_taken_made, gives_asked, statement_asked, named_taken, applied_taken, class_test_taken, array_taken, procedure_taken, labelled_taken}
 use Rattle.program_numbers.proofs.ProgramRows.{chain_in, if_in, case_value_in, case_do_in, for_step_in, for_list_in, block_in, actuals_in}
 use Rattle.program_numbers.proofs.RowKinds.{node_row, link_row, list_row, actual_row, item_row, bound_row, decl_row, nodes_behind, links_behind, lists_behind, actuals_behind, items_behind, bounds_behind, decls_behind}
-use Rattle.program_numbers.proofs.RowsTaken.{SoFar, start, turn, finish, part_has}
+use Rattle.program_numbers.proofs.RowsTaken.{start, turn, finish, part_has}
 use Rattle.program_numbers.proofs.TakenMaking.{asked, kind_as, nothing_taken, numbered_as, same_taken, taken_as, taken_one, taken_two, taken_three, taken_four, listed_anywhere, chain_anywhere, conditional_anywhere, case_value_anywhere}
 use Rattle.program_numbers.proofs.numbering.Numbering.+nodes.Goals as goal
 
@@ -58,11 +52,7 @@ pub nodes-loop-phrase-preserved : goal.nodes-loop-phrase-preserved
 nodes-loop-phrase-preserved t c = turn c.args.self.now program.node_view typed.no_nodes typed.node_and nodes_onto (λ ss. nodes_taken (phrases_of (map tree ss))) (λ s. node_taken (tree s)) (node_row tree) c.args.table.now c.loop-phrase.table _ c.args.phrases.now c.loop-phrase.phrase-index c.phrase-item.result (nodes_taken (phrases_of (map tree c.args.phrases.now)) c.args.found.now) c.loop-phrase.found _ c.loop-phrase.made.items c.push.new.self.items _ c.loop-phrase-test.true c.phrase-item.is c.loop-phrase.invariant c.in_ok-next.ensures c.in_ok-push.ensures.items
 
 pub nodes-loop-phrase-init : goal.nodes-loop-phrase-init
-nodes-loop-phrase-init t c =
-    let n = c.args.self.now in
-    let whole = nodes_taken (phrases_of (map tree c.args.phrases.now)) c.args.found.now in
-    subst (λ (ys : List Node). SoFar {X = typed.Node} {W = typed.Nodes} n c.args.table.now c.args.table.now (λ ns. map (program.node_view ns) ys) nodes_onto whole whole) (sym c.in_ok-made.ensures.items)
-    (start n program.node_view typed.no_nodes typed.node_and nodes_onto (λ ss. nodes_taken (phrases_of (map tree ss))) (λ s. node_taken (tree s)) (node_row tree) c.args.table.now c.args.phrases.now c.args.found.now)
+nodes-loop-phrase-init t c = start c.args.self.now program.node_view typed.no_nodes typed.node_and nodes_onto (λ ss. nodes_taken (phrases_of (map tree ss))) (λ s. node_taken (tree s)) (node_row tree) c.args.table.now c.args.phrases.now c.args.found.now _ c.in_ok-made.ensures.items
 
 pub nodes-returns : goal.nodes-returns
 nodes-returns t c = finish c.args.self.now program.node_view typed.no_nodes typed.node_and nodes_onto (λ ss. nodes_taken (phrases_of (map tree ss))) (λ s. node_taken (tree s)) (node_row tree) c.args.table.now c.loop-phrase.table c.args.phrases.now c.loop-phrase.phrase-index (nodes_taken (phrases_of (map tree c.args.phrases.now)) c.args.found.now) c.loop-phrase.found c.loop-phrase.made.items c.loop-phrase-test.false c.loop-phrase.invariant
@@ -77,11 +67,7 @@ pub parts-loop-part-preserved : goal.parts-loop-part-preserved
 parts-loop-part-preserved t c = turn c.args.self.now program.part_view typed.no_nodes typed.node_and nodes_onto (λ ss. nodes_taken (phrases_of (map part_tree ss))) (λ s. node_taken (part_tree s)) (node_row part_tree) c.args.table.now c.loop-part.table _ c.args.parts.now c.loop-part.part-index c.part-item.result (nodes_taken (phrases_of (map part_tree c.args.parts.now)) c.args.found.now) c.loop-part.found _ c.loop-part.made.items c.push.new.self.items _ c.loop-part-test.true c.part-item.is c.loop-part.invariant c.in_ok-next.ensures c.in_ok-push.ensures.items
 
 pub parts-loop-part-init : goal.parts-loop-part-init
-parts-loop-part-init t c =
-    let n = c.args.self.now in
-    let whole = nodes_taken (phrases_of (map part_tree c.args.parts.now)) c.args.found.now in
-    subst (λ (ys : List TypedPart). SoFar {X = typed.Node} {W = typed.Nodes} n c.args.table.now c.args.table.now (λ ns. map (program.part_view ns) ys) nodes_onto whole whole) (sym c.in_ok-made.ensures.items)
-    (start n program.part_view typed.no_nodes typed.node_and nodes_onto (λ ss. nodes_taken (phrases_of (map part_tree ss))) (λ s. node_taken (part_tree s)) (node_row part_tree) c.args.table.now c.args.parts.now c.args.found.now)
+parts-loop-part-init t c = start c.args.self.now program.part_view typed.no_nodes typed.node_and nodes_onto (λ ss. nodes_taken (phrases_of (map part_tree ss))) (λ s. node_taken (part_tree s)) (node_row part_tree) c.args.table.now c.args.parts.now c.args.found.now _ c.in_ok-made.ensures.items
 
 pub parts-returns : goal.parts-returns
 parts-returns t c = finish c.args.self.now program.part_view typed.no_nodes typed.node_and nodes_onto (λ ss. nodes_taken (phrases_of (map part_tree ss))) (λ s. node_taken (part_tree s)) (node_row part_tree) c.args.table.now c.loop-part.table c.args.parts.now c.loop-part.part-index (nodes_taken (phrases_of (map part_tree c.args.parts.now)) c.args.found.now) c.loop-part.found c.loop-part.made.items c.loop-part-test.false c.loop-part.invariant
@@ -96,11 +82,7 @@ pub links-loop-link-preserved : goal.links-loop-link-preserved
 links-loop-link-preserved t c = turn c.args.self.now link_in typed.no_links typed.link_and links_onto (λ ss. links_taken (links_of (map link_tree ss))) (λ s. link_taken (link_tree s)) (link_row link_tree) c.args.table.now c.loop-link.table _ c.args.links.now c.loop-link.link-index c.link-item.result (links_taken (links_of (map link_tree c.args.links.now)) c.args.found.now) c.loop-link.found _ c.loop-link.made.items c.push.new.self.items _ c.loop-link-test.true c.link-item.is c.loop-link.invariant (taken_one c.args.self.now c.loop-link.table _ (λ ns. program.node_view ns c.in_ok-right.right) (λ ns. link_in ns _) (node_taken (tree c.link-item.result.right)) (typed.Linked c.link-item.result.op c.link-item.result.place) c.loop-link.found _ (λ sets. refl) c.in_ok-right.ensures) c.in_ok-push.ensures.items
 
 pub links-loop-link-init : goal.links-loop-link-init
-links-loop-link-init t c =
-    let n = c.args.self.now in
-    let whole = links_taken (links_of (map link_tree c.args.links.now)) c.args.found.now in
-    subst (λ (ys : List TypedLink). SoFar {X = typed.Link} {W = typed.Links} n c.args.table.now c.args.table.now (λ ns. map (link_in ns) ys) links_onto whole whole) (sym c.in_ok-made.ensures.items)
-    (start n link_in typed.no_links typed.link_and links_onto (λ ss. links_taken (links_of (map link_tree ss))) (λ s. link_taken (link_tree s)) (link_row link_tree) c.args.table.now c.args.links.now c.args.found.now)
+links-loop-link-init t c = start c.args.self.now link_in typed.no_links typed.link_and links_onto (λ ss. links_taken (links_of (map link_tree ss))) (λ s. link_taken (link_tree s)) (link_row link_tree) c.args.table.now c.args.links.now c.args.found.now _ c.in_ok-made.ensures.items
 
 pub links-returns : goal.links-returns
 links-returns t c = finish c.args.self.now link_in typed.no_links typed.link_and links_onto (λ ss. links_taken (links_of (map link_tree ss))) (λ s. link_taken (link_tree s)) (link_row link_tree) c.args.table.now c.loop-link.table c.args.links.now c.loop-link.link-index (links_taken (links_of (map link_tree c.args.links.now)) c.args.found.now) c.loop-link.found c.loop-link.made.items c.loop-link-test.false c.loop-link.invariant
@@ -115,11 +97,7 @@ pub lists-loop-list-preserved : goal.lists-loop-list-preserved
 lists-loop-list-preserved t c = turn c.args.self.now list_in typed.no_lists typed.list_and lists_onto (λ ss. lists_taken (lists_of (map list_tree ss))) (λ s. listing_taken (list_tree s)) (list_row list_tree) c.args.table.now c.loop-list.table _ c.args.lists.now c.loop-list.list-index c.list-item.result (lists_taken (lists_of (map list_tree c.args.lists.now)) c.args.found.now) c.loop-list.found _ c.loop-list.made.items c.push.new.self.items _ c.loop-list-test.true c.list-item.is c.loop-list.invariant c.in_ok-kind.ensures c.in_ok-push.ensures.items
 
 pub lists-loop-list-init : goal.lists-loop-list-init
-lists-loop-list-init t c =
-    let n = c.args.self.now in
-    let whole = lists_taken (lists_of (map list_tree c.args.lists.now)) c.args.found.now in
-    subst (λ (ys : List TypedList). SoFar {X = typed.Listing} {W = typed.Lists} n c.args.table.now c.args.table.now (λ ns. map (list_in ns) ys) lists_onto whole whole) (sym c.in_ok-made.ensures.items)
-    (start n list_in typed.no_lists typed.list_and lists_onto (λ ss. lists_taken (lists_of (map list_tree ss))) (λ s. listing_taken (list_tree s)) (list_row list_tree) c.args.table.now c.args.lists.now c.args.found.now)
+lists-loop-list-init t c = start c.args.self.now list_in typed.no_lists typed.list_and lists_onto (λ ss. lists_taken (lists_of (map list_tree ss))) (λ s. listing_taken (list_tree s)) (list_row list_tree) c.args.table.now c.args.lists.now c.args.found.now _ c.in_ok-made.ensures.items
 
 pub lists-returns : goal.lists-returns
 lists-returns t c = finish c.args.self.now list_in typed.no_lists typed.list_and lists_onto (λ ss. lists_taken (lists_of (map list_tree ss))) (λ s. listing_taken (list_tree s)) (list_row list_tree) c.args.table.now c.loop-list.table c.args.lists.now c.loop-list.list-index (lists_taken (lists_of (map list_tree c.args.lists.now)) c.args.found.now) c.loop-list.found c.loop-list.made.items c.loop-list-test.false c.loop-list.invariant
@@ -134,11 +112,7 @@ pub actuals-loop-actual-preserved : goal.actuals-loop-actual-preserved
 actuals-loop-actual-preserved t c = turn c.args.self.now program.actual_view typed.no_actuals typed.actual_and actuals_onto (λ ss. actuals_taken (actuals_of (map actual_tree ss))) (λ s. actual_taken (actual_tree s)) (actual_row actual_tree) c.args.table.now c.loop-actual.table _ c.args.actuals.now c.loop-actual.actual-index c.actual-item.result (actuals_taken (actuals_of (map actual_tree c.args.actuals.now)) c.args.found.now) c.loop-actual.found _ c.loop-actual.made.items c.push.new.self.items _ c.loop-actual-test.true c.actual-item.is c.loop-actual.invariant c.in_ok-next.ensures c.in_ok-push.ensures.items
 
 pub actuals-loop-actual-init : goal.actuals-loop-actual-init
-actuals-loop-actual-init t c =
-    let n = c.args.self.now in
-    let whole = actuals_taken (actuals_of (map actual_tree c.args.actuals.now)) c.args.found.now in
-    subst (λ (ys : List TypedActual). SoFar {X = typed.Actual} {W = typed.Actuals} n c.args.table.now c.args.table.now (λ ns. map (program.actual_view ns) ys) actuals_onto whole whole) (sym c.in_ok-made.ensures.items)
-    (start n program.actual_view typed.no_actuals typed.actual_and actuals_onto (λ ss. actuals_taken (actuals_of (map actual_tree ss))) (λ s. actual_taken (actual_tree s)) (actual_row actual_tree) c.args.table.now c.args.actuals.now c.args.found.now)
+actuals-loop-actual-init t c = start c.args.self.now program.actual_view typed.no_actuals typed.actual_and actuals_onto (λ ss. actuals_taken (actuals_of (map actual_tree ss))) (λ s. actual_taken (actual_tree s)) (actual_row actual_tree) c.args.table.now c.args.actuals.now c.args.found.now _ c.in_ok-made.ensures.items
 
 pub actuals-returns : goal.actuals-returns
 actuals-returns t c = finish c.args.self.now program.actual_view typed.no_actuals typed.actual_and actuals_onto (λ ss. actuals_taken (actuals_of (map actual_tree ss))) (λ s. actual_taken (actual_tree s)) (actual_row actual_tree) c.args.table.now c.loop-actual.table c.args.actuals.now c.loop-actual.actual-index (actuals_taken (actuals_of (map actual_tree c.args.actuals.now)) c.args.found.now) c.loop-actual.found c.loop-actual.made.items c.loop-actual-test.false c.loop-actual.invariant
@@ -171,11 +145,7 @@ pub bounds-loop-bound-preserved : goal.bounds-loop-bound-preserved
 bounds-loop-bound-preserved t c = turn c.args.self.now bound_in typed.no_bounds typed.bound_and bounds_onto (λ ss. bounds_taken (bounds_of (map bound_tree ss))) (λ s. bound_taken (bound_tree s)) (bound_row bound_tree) c.args.table.now c.loop-bound.table _ c.args.bounds.now c.loop-bound.bound-index c.bound-item.result (bounds_taken (bounds_of (map bound_tree c.args.bounds.now)) c.args.found.now) c.loop-bound.found _ c.loop-bound.made.items c.push.new.self.items _ c.loop-bound-test.true c.bound-item.is c.loop-bound.invariant (taken_two c.args.self.now c.loop-bound.table _ _ (λ ns. program.node_view ns c.in_ok-lower.lower) (λ ns. program.node_view ns c.in_ok-upper.upper) (λ ns. bound_in ns _) (node_taken (tree c.bound-item.result.lower)) (node_taken (tree c.bound-item.result.upper)) (typed.Between c.bound-item.result.place) c.loop-bound.found _ _ (λ sets. refl) c.in_ok-lower.ensures c.in_ok-upper.ensures) c.in_ok-push.ensures.items
 
 pub bounds-loop-bound-init : goal.bounds-loop-bound-init
-bounds-loop-bound-init t c =
-    let n = c.args.self.now in
-    let whole = bounds_taken (bounds_of (map bound_tree c.args.bounds.now)) c.args.found.now in
-    subst (λ (ys : List TypedBound). SoFar {X = typed.Bound} {W = typed.Bounds} n c.args.table.now c.args.table.now (λ ns. map (bound_in ns) ys) bounds_onto whole whole) (sym c.new-made.ensures.items)
-    (start n bound_in typed.no_bounds typed.bound_and bounds_onto (λ ss. bounds_taken (bounds_of (map bound_tree ss))) (λ s. bound_taken (bound_tree s)) (bound_row bound_tree) c.args.table.now c.args.bounds.now c.args.found.now)
+bounds-loop-bound-init t c = start c.args.self.now bound_in typed.no_bounds typed.bound_and bounds_onto (λ ss. bounds_taken (bounds_of (map bound_tree ss))) (λ s. bound_taken (bound_tree s)) (bound_row bound_tree) c.args.table.now c.args.bounds.now c.args.found.now _ c.new-made.ensures.items
 
 pub bounds-returns : goal.bounds-returns
 bounds-returns t c = finish c.args.self.now bound_in typed.no_bounds typed.bound_and bounds_onto (λ ss. bounds_taken (bounds_of (map bound_tree ss))) (λ s. bound_taken (bound_tree s)) (bound_row bound_tree) c.args.table.now c.loop-bound.table c.args.bounds.now c.loop-bound.bound-index (bounds_taken (bounds_of (map bound_tree c.args.bounds.now)) c.args.found.now) c.loop-bound.found c.loop-bound.made.items c.loop-bound-test.false c.loop-bound.invariant
