@@ -611,10 +611,10 @@ JOB 11 WIDTHS
    14    2,1  Constant 2
    15    2,1  SetWidth Columns
    16    2,1  Constant 3
-   17    2,1  SetWidth Blanks 0.1
+   17    2,1  SetWidth Blanks 0.2
    18    2,1  Constant 4
-   19    2,1  Write on 0.1
-   20    2,1  CloseWidths 0.1
+   19    2,1  Write on 0.2
+   20    2,1  CloseWidths 0.2
    21    3,1  Begin
    22    3,1  Constant 5
    23    3,1  Write new

@@ -3,11 +3,14 @@ use Rattle.std.proofs.Common.{◌≡◌, ℕ, ◌+◌, ◌<◌, Bool, true, fals
 use Rattle.std.specs.Prelude.{⊤, IfSome, slice_index_or, if◌then◌else◌}
 use Rattle.std.specs.Option.{option_map}
 use Rattle.std.specs.Borrow.{Bor}
+use Rattle.std.specs.declared.alloc.Global.{Global}
+use Rattle.std.specs.declared.boxed.Box.{Box}
 use Rattle.value_ops.specs.declared.places.Place.{Place}
 use Rattle.algolw_tree.specs.declared.programs.Gives.{Gives}
 use Rattle.algolw_tree.specs.declared.programs.Gives.TheVariants as gives
 use Rattle.algolw_tree.specs.declared.programs.Node.{Node}
 use Rattle.algolw_tree.specs.declared.programs.NodeKind.{NodeKind, Named', Assign'}
+use Rattle.algolw_tree.specs.declared.programs.NodeKind as kinds
 use Rattle.algolw_tree.specs.declared.programs.TypedActual.{TypedActual, Star, Phrase'}
 use Rattle.algolw_tree.specs.declared.standard.Standard.TheVariants as standard
 use Rattle.algolw_tree.specs.declared.standard.Width.{Width}
@@ -159,8 +162,11 @@ written_listed e actuals i a x is l there r =
 
 -- ---- told by the code's own values
 
-pub placed_told : {names : Names} {node : Node} (r : Option (Width × Bor Node)) → r ≡ None → option_map (λ x. x.0) r ≡ set_in names node → None ≡ set_in names node
-placed_told r is told = sym (ap (option_map (λ x. x.0)) is) ∙ told
+pub assigns : (k : NodeKind) (a b : Box Node Global) (y : Node) → k ≡ kinds.Assign a b → y ≡ b.value → Assigns k y
+assigns k a b y is lent = (a.value, λ ns. ap (kind_view ns) is ∙ ap (λ (z : Node). typed.Assign (node_view ns a.value) (node_view ns z)) (sym lent))
 
-pub set_told : {names : Names} {node : Node} (r : Option (Width × Bor Node)) (x : Width × Bor Node) → r ≡ Some x → option_map (λ y. y.0) r ≡ set_in names node → IfSome r (λ y. Assigns node.kind y.1.now) → (Some x.0 ≡ set_in names node) × Assigns node.kind x.1.now
-set_told {names} {node} r x is told assigns = (sym (ap (option_map (λ y. y.0)) is) ∙ told, subst (λ o. IfSome o (λ (y : Width × Bor Node). Assigns node.kind y.1.now)) is assigns)
+pub placed_told : (names : Names) (node : Node) (r : Option (Width × Bor Node)) → r ≡ None → option_map (λ x. x.0) r ≡ set_in names node → None ≡ set_in names node
+placed_told names node r is told = sym (ap (option_map (λ x. x.0)) is) ∙ told
+
+pub set_told : (names : Names) (node : Node) (r : Option (Width × Bor Node)) (x : Width × Bor Node) → r ≡ Some x → option_map (λ y. y.0) r ≡ set_in names node → IfSome r (λ y. Assigns node.kind y.1.now) → (Some x.0 ≡ set_in names node) × Assigns node.kind x.1.now
+set_told names node r x is told assigns = (sym (ap (option_map (λ y. y.0)) is) ∙ told, subst (λ o. IfSome o (λ (y : Width × Bor Node). Assigns node.kind y.1.now)) is assigns)

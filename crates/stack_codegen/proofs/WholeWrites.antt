@@ -1,10 +1,10 @@
 -- A WRITE with the lists behind its name.
 use Rattle.std.proofs.Common.{◌≡◌, ℕ, ◌+◌, Bool, true, false, List, Option, Some, None, refl, sym, ap, ◌∙◌, subst}
-use Rattle.std.specs.Prelude.{⊤}
 use Rattle.value_ops.specs.declared.places.Place.{Place}
 use Rattle.algolw_tree.specs.declared.programs.Node.{Node}
 use Rattle.algolw_tree.specs.declared.programs.TypedActual.{TypedActual}
 use Rattle.algolw_tree.specs.declared.programs.TypedList.{TypedList}
+use Rattle.algolw_tree.specs.declared.standard.Standard.{Standard}
 use Rattle.algolw_tree.specs.declared.standard.Standard.TheVariants as standard
 use Rattle.algolw_typing.specs.ProgramView.{Numbers}
 use Rattle.algolw_typing.specs.Typed as typed
@@ -38,8 +38,8 @@ use Rattle.code_emitter.proofs.Joining.{codes_as}
 use Rattle.stack_codegen.specs.declared.writes.Writing.{Writing}
 use Rattle.stack_codegen.specs.Codable.{CodesNode, IsCodable, IsCodableActuals}
 use Rattle.stack_codegen.specs.Listed.{AreParted, begins_with_phrases}
-use Rattle.stack_codegen.specs.Names.{named_node}
-use Rattle.stack_codegen.specs.Writes.{CodesWrites, StandsFor, WritesSuit, end_at, writes_code, writes_marks}
+use Rattle.stack_codegen.specs.Names.{IsStandard, is_applied, named_node}
+use Rattle.stack_codegen.specs.Writes.{CodesWrites, WritesSuit, end_at, writes_code, writes_marks}
 use Rattle.stack_codegen.proofs.AppliedParts.{in_statement_same, none_of_standard, statement_place}
 use Rattle.stack_codegen.proofs.NamedParts.{NamedSuit, actuals_ready, alone_name, at, lists_ready, name_in_table, named_as, named_phrase, split_is, split_suits, statement}
 use Rattle.stack_codegen.proofs.PlanParts.{begun_list_codes}
@@ -52,9 +52,17 @@ end_fits g a i p is = subst (InstrFits g a) (sym is) (by p)
     by None = tt
     by (Some n) = tt
 
+-- any other standard name is applied
+other_applied : (k : Standard) → ((first : Bool) → k ≡ standard.Write first → ⊥) → is_applied (standing.Standard k) ≡ true
+other_applied (standard.Write first) other = absurd (other first refl)
+other_applied k other = refl
+
+pub standard_applied : (e : Emitter) (name : ℕ) (k : Standard) → IsStandard e name k → ((first : Bool) → k ≡ standard.Write first → ⊥) → is_applied (standing_of e.symbols.names name) ≡ true
+standard_applied e name k stands other = ap is_applied stands ∙ other_applied k other
+
 -- ---- no list of phrases
 
-pub write_alone : {a b : Emitter} {m : ℕ} (here : Here) (u : Mode) (node : Node) (name : ℕ) (first : Bool) (lists : List TypedList) (x : Standing) → x ≡ standing_of a.symbols.names name → IsCodable a (named_node node name lists) → StandsFor a name first → ((ns : Numbers) → begins_with_phrases (lists_in ns lists) ≡ false) → m ≡ 0 → b ≡ with_name a here u x → CodesNode a b here u (named_node node name lists) m
+pub write_alone : {a b : Emitter} {m : ℕ} (here : Here) (u : Mode) (node : Node) (name : ℕ) (first : Bool) (lists : List TypedList) (x : Standing) → x ≡ standing_of a.symbols.names name → IsCodable a (named_node node name lists) → IsStandard a name (standard.Write first) → ((ns : Numbers) → begins_with_phrases (lists_in ns lists) ≡ false) → m ≡ 0 → b ≡ with_name a here u x → CodesNode a b here u (named_node node name lists) m
 write_alone {a} {b} {m} here u node name first lists x same r stands without none made =
     let s : Scene = scene a in
     let known = name_in_table a node name lists r in
@@ -65,7 +73,7 @@ write_alone {a} {b} {m} here u node name first lists x same r stands without non
 
 -- ---- with one
 
-module _ (a : Emitter) (here : Here) (node : Node) (name : ℕ) (first : Bool) (lists : List TypedList) (actuals : List TypedActual) (rest : List TypedList) (parted : AreParted lists actuals rest) (r : IsCodable a (named_node node name lists)) (stands : StandsFor a name first) where
+module _ (a : Emitter) (here : Here) (node : Node) (name : ℕ) (first : Bool) (lists : List TypedList) (actuals : List TypedActual) (rest : List TypedList) (parted : AreParted lists actuals rest) (r : IsCodable a (named_node node name lists)) (stands : IsStandard a name (standard.Write first)) where
   abbrev s : Scene
   s = scene a
 

@@ -1,5 +1,5 @@
 -- What is done with a name, by what it stands for.
-use Rattle.std.specs.Prelude.{⊤, ℕ, ◌-◌, List, Bool, true, false, Option, Some, None, pos}
+use Rattle.std.specs.Prelude.{⊤, ◌≡◌, ℕ, ◌-◌, List, Bool, true, false, Option, Some, None, pos}
 use Rattle.value_ops.specs.declared.values.SimpleType.{SimpleType}
 use Rattle.value_ops.specs.declared.values.SimpleType.TheVariants as simple
 use Rattle.algolw_tree.specs.declared.programs.Node.{Node}
@@ -17,6 +17,7 @@ use Rattle.symbol_table.specs.declared.standings.Standing.{Standing}
 use Rattle.symbol_table.specs.declared.standings.Standing.TheVariants as standing
 use Rattle.symbol_table.specs.Contexts.{Scene, numbers_in}
 use Rattle.symbol_table.specs.Parts.{lists_in}
+use Rattle.symbol_table.specs.Standings.{standing_of}
 use Rattle.stack_code.specs.CodeView.{InstrFits}
 use Rattle.code_emitter.specs.Appending.{appended, with_name}
 use Rattle.code_emitter.specs.declared.emitter.Emitter.{Emitter}
@@ -45,6 +46,10 @@ abbrev pub is_called : Standing → Bool
 is_called (standing.Procedure x) = true
 is_called (standing.ProcedureFormal t e) = true
 is_called s = false
+
+-- it stands for a standard name
+abbrev pub IsStandard : Emitter → ℕ → Standard → Type 0
+IsStandard e name k = standing_of e.symbols.names name ≡ standing.Standard k
 
 -- neither a variable, nor called, nor WRITE
 abbrev pub is_applied : Standing → Bool

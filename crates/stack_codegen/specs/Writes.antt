@@ -136,7 +136,3 @@ writes_marks s actuals = width_marks (roles_of (phrase_context s).known actuals)
 abbrev pub CodesWrites : (old new : Emitter) → Here → Bool → List TypedActual → ℕ → Type 0
 CodesWrites old new here first actuals m =
     Codes none_own old new (writes_code (scene old) (record { here = here; first = first; position = None }) (next old) (actuals_in (numbers_in (scene old)) actuals)) (writes_marks (scene old) (actuals_in (numbers_in (scene old)) actuals)) m
-
--- the name is that of WRITE, or of WRITEON
-abbrev pub StandsFor : Emitter → ℕ → Bool → Type 0
-StandsFor e name first = standing_of e.symbols.names name ≡ standing.Standard (standard.Write first)

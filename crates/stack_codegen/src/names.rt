@@ -181,14 +181,35 @@ pub fn emit_named(
         Standing::Procedure(_) | Standing::ProcedureFormal(_, _) => {
             emit_called(emitter, here, node, name, lists)
         }
-        Standing::Standard(Standard::Write { first }) => {
-            emit_write(emitter, here, mode, node, name, first, lists)
+        Standing::Standard(standard) => {
+            emit_standard(emitter, here, mode, node, name, standard, lists)
         }
         _ => emit_applied(emitter, here, mode, node, name, lists),
     }
 }
 
-/// What is neither a variable nor called, with the lists behind it.
+/// A standard name with the lists behind it.
+#[cycle(phrases)]
+fn emit_standard(
+    emitter: &mut Emitter,
+    here: Here,
+    mode: Mode,
+    node: &Node,
+    name: u32,
+    standard: Standard,
+    lists: &[TypedList],
+) -> Result<u32, AllocError>
+    requires codable { IsCodable emitter.old (names.named_node node.now name lists.now) }
+    requires stands { names.IsStandard emitter.old name standard }
+    ensures { IfOk result (λ m. CodesNode emitter.old emitter.new here mode (names.named_node node.now name lists.now) m) }
+{
+    match standard {
+        Standard::Write { first } => emit_write(emitter, here, mode, node, name, first, lists),
+        _ => emit_applied(emitter, here, mode, node, name, lists),
+    }
+}
+
+/// What is neither a variable, nor called, nor WRITE, with the lists behind it.
 #[cycle(phrases)]
 fn emit_applied(
     emitter: &mut Emitter,

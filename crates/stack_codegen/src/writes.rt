@@ -1,7 +1,7 @@
-ghost use Rattle.std.specs.Prelude.{◌≡◌, ℕ, IfOk, IfSome};
+ghost use Rattle.std.specs.Prelude.{◌≡◌, IfOk, IfSome};
 ghost use Rattle.std.specs.Option.{option_map};
-ghost use Rattle.algolw_typing.specs.Typed as typed;
-ghost use Rattle.stack_codegen.specs.Codable.{CodesNode, IsCodable, IsCodableActuals, IsCodableLists, node_in};
+ghost use Rattle.algolw_tree.specs.declared.standard.Standard.TheVariants as standard;
+ghost use Rattle.stack_codegen.specs.Codable.{CodesNode, IsCodable, IsCodableActuals};
 ghost use Rattle.stack_codegen.specs.Names as names;
 ghost use Rattle.stack_codegen.specs.Writes as writes;
 
@@ -136,7 +136,7 @@ pub fn emit_write(
     lists: &[TypedList],
 ) -> Result<u32, AllocError>
     requires codable { IsCodable emitter.old (names.named_node node.now name lists.now) }
-    requires stands { writes.StandsFor emitter.old name first }
+    requires stands { names.IsStandard emitter.old name (standard.Write first) }
     ensures { IfOk result (λ m. CodesNode emitter.old emitter.new here mode (names.named_node node.now name lists.now) m) }
 {
     match first_list(lists) {

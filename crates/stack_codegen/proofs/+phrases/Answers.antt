@@ -59,7 +59,7 @@ use Rattle.stack_codegen.proofs.StandsThere.{standing_fits}
 use Rattle.stack_codegen.proofs.Steps.{jump_last, jump_later, jump_there, max_was, put_as, ready_appended, ready_replaced, stays_one}
 use Rattle.stack_codegen.proofs.StringParts.{is_no_part, is_part, part_begins, string_begun, string_done, string_more, string_stopped, whole_string}
 use Rattle.stack_codegen.proofs.TurnParts.{turn_done, turn_ready}
-use Rattle.stack_codegen.proofs.WholeWrites.{end_fits, write_alone, writes_coded, writes_ready}
+use Rattle.stack_codegen.proofs.WholeWrites.{end_fits, standard_applied, write_alone, writes_coded, writes_ready}
 use Rattle.stack_codegen.proofs.WriteParts.{writes_begun, writes_done, writes_over, writes_told}
 use Rattle.stack_codegen.proofs.Typing.{given_fits, variable_fits}
 use Rattle.stack_codegen.proofs.ValueParts.{turn_fits_there, value_ready, values_begun, values_done, values_more}
@@ -583,9 +583,17 @@ lists::emit_listed-loop-actual-preserved-in_default t c = let within : c.loop-ac
 pub lists::emit_listed-returns : goal.lists::emit_listed-returns
 lists::emit_listed-returns t c = listed_done c.args.here c.args.list c.loop-actual.position c.args.actuals.now c.loop-actual.actual-index c.loop-actual-test.false c.loop-actual.invariant.left
 
-pub names::emit_named-emit_write-requires : goal.names::emit_named-emit_write-requires
-names::emit_named-emit_write-requires t c =
-    (omega arith, (c.requires, sym c.standing-standing.ensures ∙ c.in-Write.is))
+pub names::emit_named-emit_standard-requires : goal.names::emit_named-emit_standard-requires
+names::emit_named-emit_standard-requires t c =
+    (omega arith, (c.requires, sym c.standing-standing.ensures ∙ c.in-Standard.is))
+
+pub names::emit_standard-emit_write-requires : goal.names::emit_standard-emit_write-requires
+names::emit_standard-emit_write-requires t c =
+    (omega arith, (c.requires.codable, c.requires.stands ∙ ap standing.Standard c.in-Write.is))
+
+pub names::emit_standard-emit_applied-requires : goal.names::emit_standard-emit_applied-requires
+names::emit_standard-emit_applied-requires t c =
+    (omega arith, (c.requires.codable, standard_applied c.args.emitter.now c.args.name c.args.standard c.requires.stands c.in_default.not-Write))
 
 pub writes::emit_write-append-requires : goal.writes::emit_write-append-requires
 writes::emit_write-append-requires t c = tt
@@ -593,11 +601,11 @@ writes::emit_write-append-requires t c = tt
 pub writes::emit_write-emit_writes-requires : goal.writes::emit_write-emit_writes-requires
 writes::emit_write-emit_writes-requires t c = (
   let h = parted_size c.args.lists.now c.in-Some.actuals.now c.in-Some.field-0-1.now c.in-Some.ensures in omega (arith, h),
-  writes_ready c.args.emitter.now c.args.here c.args.node.now c.args.name c.args.first c.args.lists.now c.in-Some.actuals.now c.in-Some.field-0-1.now c.in-Some.ensures c.requires.codable c.requires.stands c.in_statement-inner.result c.in_statement-inner.ensures c.in_ok-append.ensures.appended,
+  writes_ready c.args.emitter.now c.args.here c.args.node.now c.args.name c.args.first c.args.lists.now c.in-Some.actuals.now c.in-Some.field-0-1.now c.in-Some.ensures c.requires.codable c.requires.stands c.in_statement-inner.result c.in_statement-inner.ensures c.in_ok-append-in-Some.ensures.appended,
 )
 
-pub writes::emit_write-returns-in_ok-append : goal.writes::emit_write-returns-in_ok-append
-writes::emit_write-returns-in_ok-append t c = IfOk-weaker c.emit_writes.result _ _ (λ m h. writes_coded c.args.emitter.now c.args.here c.args.node.now c.args.name c.args.first c.args.lists.now c.in-Some.actuals.now c.in-Some.field-0-1.now c.in-Some.ensures c.requires.codable c.requires.stands c.args.mode c.in_statement-inner.result c.in_statement-inner.ensures c.in_ok-append.ensures.appended h) c.emit_writes.ensures
+pub writes::emit_write-returns-in_ok-append-in-Some : goal.writes::emit_write-returns-in_ok-append-in-Some
+writes::emit_write-returns-in_ok-append-in-Some t c = IfOk-weaker c.emit_writes.result _ _ (λ m h. writes_coded c.args.emitter.now c.args.here c.args.node.now c.args.name c.args.first c.args.lists.now c.in-Some.actuals.now c.in-Some.field-0-1.now c.in-Some.ensures c.requires.codable c.requires.stands c.args.mode c.in_statement-inner.result c.in_statement-inner.ensures c.in_ok-append-in-Some.ensures.appended h) c.emit_writes.ensures
 
 pub writes::emit_write-returns-in-None : goal.writes::emit_write-returns-in-None
 writes::emit_write-returns-in-None t c = both_ensured c.name.result (λ m. CodesNode c.args.emitter.now c.name.new.self c.args.here c.args.mode (named_node c.args.node.now c.args.name c.args.lists.now) m) c.name.ensures.none c.name.ensures.made
@@ -614,35 +622,37 @@ writes::emit_writes-emit_written-requires t c = (
 
 pub writes::emit_writes-loop-actual-preserved : goal.writes::emit_writes-loop-actual-preserved
 writes::emit_writes-loop-actual-preserved t c =
-    writes_told c.args.here c.args.first c.args.actuals.now c.loop-actual.actual-index c.actual-item.result c.in-Phrase.node c.in-Phrase.is c.loop-actual-test.true c.actual-item.is (larger_was c.loop-actual.marks c.in_ok-emit_written.inside c.max-marks.result c.max-marks.ensures) c.loop-actual.invariant c.in_ok-emit_written.ensures
+    writes_told c.args.here c.args.first c.args.actuals.now c.loop-actual.actual-index c.actual-item.result c.in-Phrase.node c.in-Phrase.is c.loop-actual-test.true c.actual-item.is (larger_was c.loop-actual.marks c.in_ok-inside.inside c.max-marks.result c.max-marks.ensures) c.loop-actual.invariant c.in_ok-inside.ensures
 
 pub writes::emit_writes-loop-actual-preserved-in_default : goal.writes::emit_writes-loop-actual-preserved-in_default
 writes::emit_writes-loop-actual-preserved-in_default t c =
     writes_over c.args.here c.args.first c.args.actuals.now c.loop-actual.actual-index c.actual-item.result c.in_default.field-0 c.in_default.is c.loop-actual-test.true c.actual-item.is c.loop-actual.invariant
 
 pub writes::emit_writes-append-requires : goal.writes::emit_writes-append-requires
-writes::emit_writes-append-requires t c = end_fits _ _ c.end.result c.loop-actual.writing.position c.end.ensures
+writes::emit_writes-append-requires t c = end_fits c.loop-actual.emitter.code.given c.loop-actual.emitter.code.added c.end.result c.loop-actual.writing.position c.end.ensures
 
 pub writes::emit_writes-returns : goal.writes::emit_writes-returns
-writes::emit_writes-returns t c = IfOk-weaker c.further.result _ _ (λ k total. writes_done c.args.here c.args.first c.args.actuals.now c.loop-actual.actual-index c.loop-actual-test.false c.loop-actual.invariant (c.in_ok-append.ensures.appended ∙ ap (appended c.loop-actual.emitter.now c.loop-actual.writing.here) c.end.ensures) (total ∙ ap (λ n. n + c.loop-actual.marks) c.marks.ensures)) c.further.ensures
+writes::emit_writes-returns t c = IfOk-weaker c.further.result _ _ (λ k total. writes_done c.args.here c.args.first c.args.actuals.now c.loop-actual.actual-index c.loop-actual-test.false c.loop-actual.invariant (c.in_ok-append.ensures.appended ∙ ap (appended c.loop-actual.emitter c.loop-actual.writing.here) c.end.ensures) (total ∙ ap (λ n. n + c.loop-actual.marks) c.marks.ensures)) c.further.ensures
 
 pub writes::emit_written-emit_phrase-requires : goal.writes::emit_written-emit_phrase-requires
 writes::emit_written-emit_phrase-requires t c =
-    let told = set_told c.setting.result (c.in-Some.width, c.in-Some.value) c.in-Some.is c.setting.ensures.width c.setting.ensures.value in
-    (set_smaller c.args.emitter.now c.args.node.now c.requires c.in-Some.width c.in-Some.value.now told.0 told.1, set_ready c.args.emitter.now c.args.node.now c.requires c.in-Some.width c.in-Some.value.now told.0 told.1)
+    let told = set_told c.args.emitter.now.symbols.names c.args.node.now c.setting.result (c.in-Some.width, c.in-Some.value) c.in-Some.is c.setting.ensures.width c.setting.ensures.value in (
+      let h = set_smaller c.args.emitter.now c.args.node.now c.requires c.in-Some.width c.in-Some.value.now told.0 told.1 in omega (arith, h),
+      set_ready c.args.emitter.now c.args.node.now c.requires c.in-Some.width c.in-Some.value.now told.0 told.1,
+    )
 
-pub writes::emit_written-returns-in_ok-opened : goal.writes::emit_written-returns-in_ok-opened
-writes::emit_written-returns-in_ok-opened t c =
-    let told = set_told c.setting.result (c.in-Some.width, c.in-Some.value) c.in-Some.is c.setting.ensures.width c.setting.ensures.value in
-    set_coded c.args.emitter.now c.args.node.now c.requires c.in-Some.width c.in-Some.value.now told.0 told.1 c.args.writing _ c.in_ok-marks.ensures c.in_ok-append.ensures.appended c.in_ok-opened.ensures
+pub writes::emit_written-returns-in_ok-opened-in-Some : goal.writes::emit_written-returns-in_ok-opened-in-Some
+writes::emit_written-returns-in_ok-opened-in-Some t c =
+    let told = set_told c.args.emitter.now.symbols.names c.args.node.now c.setting.result (c.in-Some.width, c.in-Some.value) c.in-Some.is c.setting.ensures.width c.setting.ensures.value in
+    set_coded c.args.emitter.now c.args.node.now c.requires c.in-Some.width c.in-Some.value.now told.0 told.1 c.args.writing _ c.in_ok-marks-in-Some.ensures c.in_ok-append-in-Some.ensures.appended c.in_ok-opened-in-Some.ensures
 
 pub writes::emit_written-emit_phrase-requires-in-None : goal.writes::emit_written-emit_phrase-requires-in-None
 writes::emit_written-emit_phrase-requires-in-None t c =
-    (omega arith, placed_ready c.args.emitter.now c.args.node.now c.requires (placed_told c.setting.result c.in-None.is c.setting.ensures.width))
+    (omega arith, placed_ready c.args.emitter.now c.args.node.now c.requires (placed_told c.args.emitter.now.symbols.names c.args.node.now c.setting.result c.in-None.is c.setting.ensures.width))
 
-pub writes::emit_written-returns-in-None : goal.writes::emit_written-returns-in-None
-writes::emit_written-returns-in-None t c =
-    placed_coded c.args.emitter.now c.args.node.now c.requires (placed_told c.setting.result c.in-None.is c.setting.ensures.width) c.args.writing _ c.in_ok-marks-in-None.ensures c.in_ok-append-in-None.ensures.appended c.behind_value.ensures
+pub writes::emit_written-returns-in_ok-append-in-None : goal.writes::emit_written-returns-in_ok-append-in-None
+writes::emit_written-returns-in_ok-append-in-None t c =
+    placed_coded c.args.emitter.now c.args.node.now c.requires (placed_told c.args.emitter.now.symbols.names c.args.node.now c.setting.result c.in-None.is c.setting.ensures.width) c.args.writing _ c.in_ok-marks-in-None.ensures c.in_ok-append-in-None.ensures.appended c.behind_value.ensures
 
 pub actuals::emit_content-emit_listed-requires : goal.actuals::emit_content-emit_listed-requires
 actuals::emit_content-emit_listed-requires t c =

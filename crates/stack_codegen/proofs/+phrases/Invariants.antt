@@ -64,8 +64,11 @@ invariant-phrases::emit_chain-loop-link l =
 abbrev pub decreases-names::emit_named : goal.decreases-names::emit_named
 decreases-names::emit_named l = 7 + size_lists (lists_in nothing l.lists.now)
 
+abbrev pub decreases-names::emit_standard : goal.decreases-names::emit_standard
+decreases-names::emit_standard l = 6 + size_lists (lists_in nothing l.lists.now)
+
 abbrev pub decreases-names::emit_applied : goal.decreases-names::emit_applied
-decreases-names::emit_applied l = 6 + size_lists (lists_in nothing l.lists.now)
+decreases-names::emit_applied l = 5 + size_lists (lists_in nothing l.lists.now)
 
 abbrev pub decreases-names::emit_called : goal.decreases-names::emit_called
 decreases-names::emit_called l = 6 + size_lists (lists_in nothing l.lists.now)
@@ -89,13 +92,13 @@ abbrev pub invariant-lists::emit_listed-loop-actual : goal.invariant-lists::emit
 invariant-lists::emit_listed-loop-actual l = record { left : ListedLeft l.fn.emitter l.emitter l.here l.list l.position l.actuals l.actual-index l.marks; within : l.position ≤ l.actual-index }
 
 abbrev pub decreases-writes::emit_write : goal.decreases-writes::emit_write
-decreases-writes::emit_write l = 6 + size_lists (lists_in nothing l.lists.now)
+decreases-writes::emit_write l = 5 + size_lists (lists_in nothing l.lists.now)
 
 abbrev pub decreases-writes::emit_writes : goal.decreases-writes::emit_writes
 decreases-writes::emit_writes l = 4 + size_actuals (actuals_in nothing l.actuals.now)
 
 abbrev pub invariant-writes::emit_writes-loop-actual : goal.invariant-writes::emit_writes-loop-actual
-invariant-writes::emit_writes-loop-actual l = WritesLeft l.fn.emitter l.emitter l.here l.first l.writing l.actuals l.actual-index l.marks
+invariant-writes::emit_writes-loop-actual l = WritesLeft l.fn.emitter l.emitter l.fn.here l.first l.writing l.actuals l.actual-index l.marks
 
 abbrev pub decreases-writes::emit_written : goal.decreases-writes::emit_written
 decreases-writes::emit_written l = 2 + node_size l.node.now
