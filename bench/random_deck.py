@@ -8,6 +8,7 @@ import collections
 
 TEXTS = ["A", "Z", "OF", "WORD", "PLAIN TEXT", 'SAY ""HI""', "0123456789ABCDEF", "-" * 60]
 WORDS = {"value": " VALUE", "result": " RESULT", "value result": " VALUE RESULT", "name": ""}
+WIDTHS = ("I_W", "S_W")
 INTEGER, LOGICAL, BITS = "INTEGER", "LOGICAL", "BITS"
 
 
@@ -95,8 +96,10 @@ class Deck:
     def __init__(self, chance):
         self.chance, self.number, self.shapes = chance, 0, [()]
         self.standard = Scope()
-        if self.percent(25):
-            self.standard.declare("variables", [Variable("I_W", INTEGER), Variable("S_W", INTEGER)])
+        # In three decks of ten the widths are used as variables, and some of these use them more than others.
+        self.width_uses = self.one(0, 5, 20) if self.percent(30) else None
+        if self.width_uses is not None:
+            self.standard.declare("variables", [Variable(name, INTEGER) for name in WIDTHS])
         self.text = self.program()
 
     def percent(self, number):
@@ -337,6 +340,10 @@ class Deck:
     def variable(self, scope, suits, depth):
         """A variable whose type suits, with the type, where there is one."""
         draw = self.chance.randrange(10)
+        if self.percent(self.width_uses or 0):
+            widths = [it for it in scope.all("variables") if it.name in WIDTHS and suits(it.kind)]
+            if widths:
+                return self.one(*widths)
         arrays = [it for it in scope.all("arrays") if suits(it.kind)]
         if arrays and draw < 3:
             array = self.one(*arrays)
@@ -447,7 +454,8 @@ class Deck:
 
     def loop(self, scope, depth):
         """A FOR, mostly of a few turns."""
-        inner, name = Scope(scope), self.name("I")
+        inner = Scope(scope)
+        name = self.name("I", inner)
         inner.declare("controls", [name])
         if self.percent(40):
             values = ", ".join(self.some(1, 3, lambda: self.value(scope, INTEGER, 1)))
@@ -483,6 +491,8 @@ class Deck:
             return f"IOCONTROL({self.one('1', '2', '2', self.value(scope, INTEGER, 0))})"
         elif draw == 18 and self.percent(50):
             return f"ASSERT {self.value(scope, LOGICAL, depth) if self.percent(30) else 'TRUE'}"
+        elif draw == 19 and self.percent(10):
+            return self.declared_write(scope)
         if found:
             return found
         kinds = self.some(1, 3, lambda: self.one(INTEGER, INTEGER, LOGICAL, BITS, 4, 100, 200))
@@ -494,13 +504,25 @@ class Deck:
 
     def setting(self, scope, depth):
         """A setting of a width, mostly to one in range, or none where its name means something else."""
-        name, around = self.one("I_W", "S_W"), scope
+        name, around = self.one(*WIDTHS), scope
         while scope not in (None, self.standard):
             if name in scope.hidden:
                 return []
             scope = scope.around
-        width = self.one("1", "3", "6", "20", "132") if self.percent(90) else self.value(around, INTEGER, depth)
+        draw = self.chance.randrange(100)
+        if draw < 4:
+            width = self.one("0", "0", "(-1)", "133", "258", "65550", "(-MAXINTEGER - 1)")
+        elif draw < (14 if self.width_uses is None else 40):
+            width = self.value(around, INTEGER, depth)
+        else:
+            width = self.one("1", "3", "6", "20", "132")
         return [f"{name} := {width}"]
+
+    def declared_write(self, scope):
+        """A block that declares WRITE anew, and a call of it: what would be a setting is a statement that is handed on."""
+        heading = "PROCEDURE WRITE (PROCEDURE S; INTEGER VALUE N); BEGIN S; WRITEON(N) END"
+        setting = "".join(self.setting(scope, 0)) or "IOCONTROL(2)"
+        return f"BEGIN {heading}; WRITE({setting}, {self.value(scope, INTEGER, 0)}) END"
 
     def reading(self, scope):
         wanted = self.one(INTEGER, INTEGER, INTEGER, LOGICAL, BITS, 8, 80)
