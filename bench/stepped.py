@@ -17,12 +17,19 @@ def batch(deck, count):
     return "".join(f"{card}\n" for card in cards)
 
 
-def counted(program, text):
-    """What the program lists, and how many instructions that takes."""
-    words = ["valgrind", "--tool=callgrind", "--callgrind-out-file=/dev/null", os.path.abspath(program), "--workers", "1"]
+def instructions(words, text):
+    """What a program writes that reads this text, and how many instructions that takes. Python's start would else take more or
+    fewer from run to run."""
+    under = ["valgrind", "--tool=callgrind", "--callgrind-out-file=/dev/null", *words]
     with tempfile.TemporaryDirectory() as room:
-        ran = subprocess.run(words, input=text, capture_output=True, text=True, cwd=room, check=True)
+        settled = {**os.environ, "PYTHONHASHSEED": "0"}
+        ran = subprocess.run(under, input=text, capture_output=True, text=True, cwd=room, env=settled, check=True)
     return ran.stdout, int(re.search(r"Collected : (\d+)", ran.stderr)[1])
+
+
+def counted(program, text):
+    """What the monitor lists, and how many instructions that takes."""
+    return instructions([os.path.abspath(program), "--workers", "1"], text)
 
 
 def steps_of(listing):
@@ -38,10 +45,21 @@ def a_step(program, deck, count):
 
 def compared(told, programs, deck, count):
     """The instructions of a step of each program. It stops where two don't list the same."""
+    return stepped(told, programs, deck, count)[1]
+
+
+def stepped(told, programs, deck, count):
+    """The two listings, and the instructions of a step of each program. It stops where two don't list the same."""
     listings, figures = zip(*(a_step(program, deck, count) for program in programs))
     if len(set(listings)) != 1:
         sys.exit(f"{told}: the listings differ")
-    return figures
+    return listings[0], figures
+
+
+def output_of(listing):
+    """The number that the one job of a listing printed."""
+    lines = listing.splitlines()
+    return int(lines[lines.index("OUTPUT") + 1])
 
 
 def print_row(cells):

@@ -9,6 +9,9 @@ from deck_tokens import Deck
 
 WIDTH = 80
 
+# The cards of a job's library are numbered behind those that a deck may have.
+DECK_CARDS = 2000
+
 
 @dataclass
 class Explained:
@@ -52,7 +55,9 @@ def _remark(remark, section, deck, book, seen):
         said.cause, said.cure, said.allowed = entry.cause, entry.cure, entry.allowed
     seen.add((remark.kind, remark.number))
     hint, found = book.hint(remark, section, deck)
-    if hint:
+    if _is_of_library(remark, section):
+        said.here = f"On card {remark.card - DECK_CARDS} of the job's library." if remark.card > DECK_CARDS else ""
+    elif hint:
         said.here, said.mend = f"{hint.cause} ({found})" if found else hint.cause, hint.cure
         said.row = hint.row
     said.within = _within(section)
@@ -67,9 +72,16 @@ def _within(section):
     return f"the actual at {entry[1]}" if entry[:1] == ["ACTUAL"] else ""
 
 
+def _is_of_library(remark, section):
+    """Whether a place is one of the job's library, and not of its deck or of the deck's end."""
+    return remark.card >= DECK_CARDS and remark.card > len(section.cards) + 1 or remark.number == 44
+
+
 def _cards(remark, section):
     """The cards to show for a place, and its column where the last of them has it: the card of the place, and of a
     diagnostic of form the one above where the place is the first of its card, as the fault may stand there."""
+    if _is_of_library(remark, section):
+        return [], None
     texts = {card.number: card.text for card in section.cards}
     here = texts.get(remark.card)
     above = max((it for it in texts if it < remark.card and texts[it].strip()), default=None)

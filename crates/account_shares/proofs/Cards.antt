@@ -1,23 +1,27 @@
 -- The cards of a share's jobs.
-use Rattle.std.proofs.Common.{◌≡◌, ℕ, ◌+◌, ◌-◌, Bool, true, false, cond, nat_lt, List, [], ◌∷◌, Option, Some, None, length, map, filter, flat_map, option_map, refl, sym, ap, ◌∙◌, arith, sum_by}
-use Rattle.std.specs.List.{list_any, position_from, position_or_len}
+use Rattle.std.proofs.Common.{◌≡◌, ℕ, ◌+◌, Bool, true, false, cond, nat_lt, List, [], ◌∷◌, ◌++◌, append-nil, Option, Some, None, Ok, Err, length, map, filter, flat_map, option_map, refl, sym, ap, ◌∙◌, arith, sum_by}
+use Rattle.std.specs.List.{list_any, position_from}
 use Rattle.std.specs.Str.{bytes_eq}
 use Rattle.std.proofs.lemmas.Iterator.Adapters.{position_from-zero}
 use Rattle.deck_reader.specs.declared.batch.Account.{Account}
 use Rattle.deck_reader.specs.declared.forms.JobCard.{JobCard}
 use Rattle.deck_reader.specs.JobView.{JobView}
-use Rattle.deck_reader.specs.Cards.{cards, pieces}
-use Rattle.deck_reader.specs.Forms.{is_end}
+use Rattle.deck_reader.specs.Cards.{cards}
+use Rattle.deck_reader.specs.Forms.{is_head}
 use Rattle.deck_reader.specs.JobCards.{job_card}
 use Rattle.deck_reader.specs.Options.{is_in_range}
-use Rattle.deck_reader.specs.Batch.{Run, account_for, account_of, batch_of, before_head, body, job_from, job_of, jobs_of, outside, runs, written}
+use Rattle.deck_reader.specs.LibraryView.{LibraryView}
+use Rattle.deck_reader.specs.Batch.{Front, Run, account_for, account_of, batch_of, before_head, body, front_of, job_from, job_of, jobs_of, libraries_in, library_for, outside, runs, shelf_cards, shelved, strays, written}
 use Rattle.deck_reader.specs.CardFlaws.{is_long, is_foul}
-use Rattle.account_shares.specs.Own.{job_cards}
+use Rattle.account_shares.specs.Own.{job_cards, kept_library_cards}
 use Rattle.account_shares.specs.Laws.{IsPlain}
 use Rattle.account_shares.specs.Shares.{as_in, cards_in, is_in, jobs_in, number_in, numbered_in, part_from, run_is_in}
 use Rattle.account_shares.specs.ShareLaws.{ShareCards, ShareInput}
-use Rattle.account_shares.proofs.Cut.{account_by_any, body_again, closed, first_is_head, none_outside, read_job, runs_again, runs_are, some_are}
-use Rattle.account_shares.proofs.Bytes.{AllOf, RunsOf, Trims, all_append, all_plain, all_take, all_trim, cards_again, runs_all}
+use Rattle.account_shares.proofs.Cut.{Found, account_by_any, body_again, closed, first_is_head, none_outside, read_job, runs_again, runs_are, runs_past, some_are}
+use Rattle.account_shares.proofs.Firsts.{before-past_all}
+use Rattle.account_shares.proofs.Kept.{all_counted, libraries_alone, no_heads}
+use Rattle.account_shares.proofs.Again.{all_again}
+use Rattle.account_shares.proofs.Bytes.{all_shared, cards_again}
 use Rattle.account_shares.proofs.Shares.{next_other, next_own}
 
 -- ---- the account of a name
@@ -55,93 +59,86 @@ account_in own accounts name mine =
 
 -- ---- jobs
 
-paid_in : (ranged many : Bool) (own : Option ℕ → Bool) (count : ℕ) (c : JobCard) (payer : Option ℕ) (deck data_cards : List (List ℕ)) → own (read_job ranged many 0 count c payer deck data_cards).account ≡ true → own payer ≡ true
-paid_in false many own count c payer deck data_cards h = h
-paid_in true true own count c payer deck data_cards h = h
-paid_in true false own count c None deck data_cards h = h
-paid_in true false own count c (Some p) deck data_cards h = h
+paid_in : (ranged many : Bool) (own : Option ℕ → Bool) (count : ℕ) (c : JobCard) (payer : Option ℕ) (library : Found) (deck data_cards : List (List ℕ)) → own (read_job ranged many 0 count c payer library deck data_cards).account ≡ true → own payer ≡ true
+paid_in false many own count c payer library deck data_cards h = h
+paid_in true true own count c payer library deck data_cards h = h
+paid_in true false own count c None library deck data_cards h = h
+paid_in true false own count c (Some p) (Ok library) deck data_cards h = h
+paid_in true false own count c (Some p) (Err flaw) deck data_cards h = h
 
-as_in_read : (ranged many : Bool) (own : Option ℕ → Bool) (n m count : ℕ) (c : JobCard) (payer : Option ℕ) (deck data_cards : List (List ℕ))
-    → read_job ranged many n count c (option_map (number_in own) payer) deck data_cards ≡ as_in own n (read_job ranged many m count c payer deck data_cards)
-as_in_read false many own n m count c payer deck data_cards = refl
-as_in_read true true own n m count c payer deck data_cards = refl
-as_in_read true false own n m count c None deck data_cards = refl
-as_in_read true false own n m count c (Some p) deck data_cards = refl
+as_in_read : (ranged many : Bool) (own : Option ℕ → Bool) (n m count : ℕ) (c : JobCard) (payer : Option ℕ) (library : Found) (deck data_cards : List (List ℕ))
+    → read_job ranged many n count c (option_map (number_in own) payer) library deck data_cards ≡ as_in own n (read_job ranged many m count c payer library deck data_cards)
+as_in_read false many own n m count c payer library deck data_cards = refl
+as_in_read true true own n m count c payer library deck data_cards = refl
+as_in_read true false own n m count c None library deck data_cards = refl
+as_in_read true false own n m count c (Some p) (Ok library) deck data_cards = refl
+as_in_read true false own n m count c (Some p) (Err flaw) deck data_cards = refl
 
-job_in : (long foul : Bool) (card : Option JobCard) (own : Option ℕ → Bool) (accounts : List Account) (n m count : ℕ) (deck data_cards : List (List ℕ))
-    → own (job_from 0 count long foul card (account_for accounts card) deck data_cards).account ≡ true
-    → job_from n count long foul card (account_for (part_from own 0 accounts) card) deck data_cards ≡ as_in own n (job_from m count long foul card (account_for accounts card) deck data_cards)
-job_in true foul card own accounts n m count deck data_cards h = refl
-job_in false true card own accounts n m count deck data_cards h = refl
-job_in false false None own accounts n m count deck data_cards h = refl
-job_in false false (Some c) own accounts n m count deck data_cards h =
+job_in : (long foul : Bool) (card : Option JobCard) (own : Option ℕ → Bool) (accounts : List Account) (n m count : ℕ) (library : Found) (deck data_cards : List (List ℕ))
+    → own (job_from 0 count long foul card (account_for accounts card) library deck data_cards).account ≡ true
+    → job_from n count long foul card (account_for (part_from own 0 accounts) card) library deck data_cards ≡ as_in own n (job_from m count long foul card (account_for accounts card) library deck data_cards)
+job_in true foul card own accounts n m count library deck data_cards h = refl
+job_in false true card own accounts n m count library deck data_cards h = refl
+job_in false false None own accounts n m count library deck data_cards h = refl
+job_in false false (Some c) own accounts n m count library deck data_cards h =
     let ranged = is_in_range c.settings in
     let many = nat_lt 2000 count in
-    ap (λ (payer : Option ℕ). read_job ranged many n count c payer deck data_cards) (account_in own accounts c.account (paid_in ranged many own count c (account_of accounts c.account) deck data_cards h))
-    ∙ as_in_read ranged many own n m count c (account_of accounts c.account) deck data_cards
+    ap (λ (payer : Option ℕ). read_job ranged many n count c payer library deck data_cards) (account_in own accounts c.account (paid_in ranged many own count c (account_of accounts c.account) library deck data_cards h))
+    ∙ as_in_read ranged many own n m count c (account_of accounts c.account) library deck data_cards
 
-job_of_in : (own : Option ℕ → Bool) (accounts : List Account) (run : Run) (n m : ℕ) → run_is_in own accounts run ≡ true
-    → job_of (part_from own 0 accounts) n run.head (body (closed run)) ≡ as_in own n (job_of accounts m run.head (body run))
-job_of_in own accounts run n m h =
-    ap (job_of (part_from own 0 accounts) n run.head) (body_again run)
-    ∙ job_in (list_any is_long (run.head ∷ body run)) (list_any is_foul (run.head ∷ body run)) (job_card run.head) own accounts n m (length (body run) + 1) _ _ h
+-- the front of the share's accounts, with the same libraries
+abbrev part_of : (Option ℕ → Bool) → Front → Front
+part_of own front = record { accounts = part_from own 0 front.accounts; shelf = front.shelf }
 
-jobs_by : (b : Bool) (own : Option ℕ → Bool) (accounts : List Account) (run : Run) (rs : List Run) (n m : ℕ) → run_is_in own accounts run ≡ b
-    → ((n : ℕ) → jobs_of (part_from own 0 accounts) n (map closed (filter (run_is_in own accounts) rs)) ≡ numbered_in own n (filter (is_in own) (jobs_of accounts (m + 1) rs)))
-    → jobs_of (part_from own 0 accounts) n (map closed (cond b (run ∷ filter (run_is_in own accounts) rs) (filter (run_is_in own accounts) rs)))
-    ≡ numbered_in own n (cond b (job_of accounts m run.head (body run) ∷ filter (is_in own) (jobs_of accounts (m + 1) rs)) (filter (is_in own) (jobs_of accounts (m + 1) rs)))
-jobs_by true own accounts run rs n m is rest =
-    ap (λ (job : JobView). job ∷ jobs_of (part_from own 0 accounts) (n + 1) (map closed (filter (run_is_in own accounts) rs))) (job_of_in own accounts run n m is)
-    ∙ ap (λ (jobs : List JobView). as_in own n (job_of accounts m run.head (body run)) ∷ jobs) (rest (n + 1))
-jobs_by false own accounts run rs n m is rest = rest n
+job_of_in : (own : Option ℕ → Bool) (front : Front) (run : Run) (n m : ℕ) → run_is_in own front run ≡ true
+    → job_of (part_of own front) n run.head (body (closed run)) ≡ as_in own n (job_of front m run.head (body run))
+job_of_in own front run n m h =
+    ap (job_of (part_of own front) n run.head) (body_again run)
+    ∙ job_in (list_any is_long (run.head ∷ body run)) (list_any is_foul (run.head ∷ body run)) (job_card run.head) own front.accounts n m (length (body run) + 1) (library_for front.shelf (job_card run.head)) _ _ h
 
-jobs_of_in : (own : Option ℕ → Bool) (accounts : List Account) (rs : List Run) (n m : ℕ)
-    → jobs_of (part_from own 0 accounts) n (map closed (filter (run_is_in own accounts) rs)) ≡ numbered_in own n (filter (is_in own) (jobs_of accounts m rs))
-jobs_of_in own accounts [] n m = refl
-jobs_of_in own accounts (run ∷ rs) n m =
-    let same : run_is_in own accounts run ≡ is_in own (job_of accounts m run.head (body run)) =
-    ap own (account_by_any 0 m (length (body run) + 1) (list_any is_long (run.head ∷ body run)) (list_any is_foul (run.head ∷ body run)) (job_card run.head) (account_for accounts (job_card run.head)) _ _) in
-    jobs_by (run_is_in own accounts run) own accounts run rs n m refl (λ k. jobs_of_in own accounts rs k (m + 1))
-    ∙ ap (λ (b : Bool). numbered_in own n (cond b (job_of accounts m run.head (body run) ∷ filter (is_in own) (jobs_of accounts (m + 1) rs)) (filter (is_in own) (jobs_of accounts (m + 1) rs)))) same
+jobs_by : (b : Bool) (own : Option ℕ → Bool) (front : Front) (run : Run) (rs : List Run) (n m : ℕ) → run_is_in own front run ≡ b
+    → ((n : ℕ) → jobs_of (part_of own front) n (map closed (filter (run_is_in own front) rs)) ≡ numbered_in own n (filter (is_in own) (jobs_of front (m + 1) rs)))
+    → jobs_of (part_of own front) n (map closed (cond b (run ∷ filter (run_is_in own front) rs) (filter (run_is_in own front) rs)))
+    ≡ numbered_in own n (cond b (job_of front m run.head (body run) ∷ filter (is_in own) (jobs_of front (m + 1) rs)) (filter (is_in own) (jobs_of front (m + 1) rs)))
+jobs_by true own front run rs n m is rest =
+    ap (λ (job : JobView). job ∷ jobs_of (part_of own front) (n + 1) (map closed (filter (run_is_in own front) rs))) (job_of_in own front run n m is)
+    ∙ ap (λ (jobs : List JobView). as_in own n (job_of front m run.head (body run)) ∷ jobs) (rest (n + 1))
+jobs_by false own front run rs n m is rest = rest n
+
+jobs_of_in : (own : Option ℕ → Bool) (front : Front) (rs : List Run) (n m : ℕ)
+    → jobs_of (part_of own front) n (map closed (filter (run_is_in own front) rs)) ≡ numbered_in own n (filter (is_in own) (jobs_of front m rs))
+jobs_of_in own front [] n m = refl
+jobs_of_in own front (run ∷ rs) n m =
+    let same : run_is_in own front run ≡ is_in own (job_of front m run.head (body run)) =
+    ap own (account_by_any 0 m (length (body run) + 1) (list_any is_long (run.head ∷ body run)) (list_any is_foul (run.head ∷ body run)) (job_card run.head) (account_for front.accounts (job_card run.head)) (library_for front.shelf (job_card run.head)) _ _) in
+    jobs_by (run_is_in own front run) own front run rs n m refl (λ k. jobs_of_in own front rs k (m + 1))
+    ∙ ap (λ (b : Bool). numbered_in own n (cond b (job_of front m run.head (body run) ∷ filter (is_in own) (jobs_of front (m + 1) rs)) (filter (is_in own) (jobs_of front (m + 1) rs)))) same
 
 -- ---- the batch
 
 pub share_cards : ShareCards
 share_cards own accounts cards =
-    let mine = filter (run_is_in own accounts) (runs cards) in
-    let are = some_are (run_is_in own accounts) (runs cards) (runs_are cards) in
-    let all : runs (cards_in own accounts cards) ≡ map closed mine = runs_again mine are in
-    let jobs : jobs_of (part_from own 0 accounts) 1 (runs (cards_in own accounts cards)) ≡ jobs_in own (jobs_of accounts 1 (runs cards)) =
-    ap (jobs_of (part_from own 0 accounts) 1) all ∙ jobs_of_in own accounts (runs cards) 1 1 in
-    let front : written (before_head (cards_in own accounts cards)) ≡ 0 = ap written (first_is_head mine are) in
-    let outer : sum_by (λ run. written (outside run)) (runs (cards_in own accounts cards)) ≡ 0 = ap (sum_by (λ run. written (outside run))) all ∙ none_outside mine in
-    let stray : written (before_head (cards_in own accounts cards)) - 0 + sum_by (λ run. written (outside run)) (runs (cards_in own accounts cards)) ≡ 0 = omega (arith, front, outer) in
+    let front = front_of (Some accounts) cards in
+    let given = Some (part_from own 0 accounts) in
+    let libs = kept_library_cards cards in
+    let some = cards_in own accounts cards in
+    let mine = filter (run_is_in own front) (runs cards) in
+    let are = some_are (run_is_in own front) (runs cards) (runs_are cards) in
+    let first : before_head some ≡ libs = before-past_all is_head libs (flat_map job_cards mine) (no_heads cards) ∙ ap (λ (xs : List (List ℕ)). libs ++ xs) (first_is_head mine are) ∙ append-nil libs in
+    let all : runs some ≡ map closed mine = runs_past libs (flat_map job_cards mine) (no_heads cards) ∙ runs_again mine are in
+    let libraries : libraries_in (before_head some) ≡ libraries_in (before_head cards) = ap libraries_in first ∙ libraries_alone cards in
+    let alike : front_of given some ≡ part_of own front = ap (λ (ls : List LibraryView). record { accounts = part_from own 0 accounts; shelf = map shelved ls }) libraries in
+    let jobs : jobs_of (front_of given some) 1 (runs some) ≡ jobs_in own (jobs_of front 1 (runs cards)) =
+    ap (λ (f : Front). jobs_of f 1 (runs some)) alike ∙ ap (jobs_of (part_of own front) 1) all ∙ jobs_of_in own front (runs cards) 1 1 in
+    let shown : written (before_head some) ≡ written libs = ap written first in
+    let shelf : shelf_cards (libraries_in (before_head some)) ≡ shelf_cards (libraries_in (before_head cards)) = ap shelf_cards libraries in
+    let outer : sum_by (λ run. written (outside run)) (runs some) ≡ 0 = ap (sum_by (λ run. written (outside run))) all ∙ none_outside mine in
+    let stray : strays given some ≡ 0 = omega (arith, shown, shelf, all_counted cards, outer) in
     λ i. record { accounts = part_from own 0 accounts; jobs = jobs i; stray = stray i }
 
 -- ---- its bytes
 
--- a job that has an account holds allowed bytes alone
-not_foul_in : (long foul : Bool) (own : Option ℕ → Bool) (count : ℕ) (card : Option JobCard) (payer : Option ℕ) (deck data_cards : List (List ℕ)) → own None ≡ false
-    → own (job_from 0 count long foul card payer deck data_cards).account ≡ true → foul ≡ false
-not_foul_in true foul own count card payer deck data_cards none h = let both : false ≡ true = sym none ∙ h in cc
-not_foul_in false true own count card payer deck data_cards none h = let both : false ≡ true = sym none ∙ h in cc
-not_foul_in false false own count card payer deck data_cards none h = refl
-
-plain_by : (b : Bool) (own : Option ℕ → Bool) (accounts : List Account) (run : Run) (rs : List Run) → own None ≡ false → run_is_in own accounts run ≡ b → Trims run.head → AllOf Trims run.behind
-    → AllOf IsPlain (flat_map job_cards (filter (run_is_in own accounts) rs))
-    → AllOf IsPlain (flat_map job_cards (cond b (run ∷ filter (run_is_in own accounts) rs) (filter (run_is_in own accounts) rs)))
-plain_by false own accounts run rs none is head behind rest = rest
-plain_by true own accounts run rs none is head behind rest =
-    let mine = run.head ∷ body run in
-    let fine : list_any is_foul mine ≡ false =
-    not_foul_in (list_any is_long mine) (list_any is_foul mine) own (length (body run) + 1) (job_card run.head) (account_for accounts (job_card run.head)) _ _ none is in
-    all_append IsPlain mine (flat_map job_cards (filter (run_is_in own accounts) rs)) (all_plain mine (head, all_take Trims (position_or_len is_end run.behind) run.behind behind) fine) rest
-
-plain_in : (own : Option ℕ → Bool) (accounts : List Account) (rs : List Run) → own None ≡ false → RunsOf Trims rs → AllOf IsPlain (flat_map job_cards (filter (run_is_in own accounts) rs))
-plain_in own accounts [] none all = tt
-plain_in own accounts (run ∷ rs) none all = plain_by (run_is_in own accounts run) own accounts run rs none refl all.0.0 all.0.1 (plain_in own accounts rs none all.1)
-
 pub share_input : ShareInput
-share_input own accounts bytes none =
-    ap (batch_of (Some (part_from own 0 accounts))) (cards_again (cards_in own accounts (cards bytes)) (plain_in own accounts (runs (cards bytes)) none (runs_all Trims (cards bytes) (all_trim (pieces bytes)))))
+share_input own accounts bytes =
+    ap (batch_of (Some (part_from own 0 accounts))) (cards_again (cards_in own accounts (cards bytes)) (all_shared IsPlain (run_is_in own (front_of (Some accounts) (cards bytes))) (cards bytes) (all_again bytes)))
     ∙ share_cards own accounts (cards bytes)

@@ -1,11 +1,11 @@
 -- A batch of one account's cards.
-use Rattle.std.proofs.Common.{◌≡◌, ℕ, suc, zero, ◌+◌, ◌<◌, ◌≤◌, ◌&&◌, ◌||◌, not, Bool, true, false, cond, nat_lt, List, [], ◌∷◌, ◌++◌, Option, Some, None, length, take, get_or, map, filter, flat_map, codes, refl, sym, ap, ◌∙◌, arith, append-nil, sum_by, slice_get, slice_index}
-use Rattle.std.specs.List.{list_any, before_first, position_or_len, cons_option, list_all}
+use Rattle.std.proofs.Common.{◌≡◌, ℕ, suc, zero, ◌+◌, ◌<◌, ◌≤◌, ◌&&◌, ◌||◌, not, Bool, true, false, cond, nat_lt, List, [], ◌∷◌, ◌++◌, Option, Some, None, Result, Ok, Err, length, take, get_or, map, filter, flat_map, codes, refl, sym, ap, ◌∙◌, arith, append-nil, sum_by, slice_get, slice_index}
+use Rattle.std.specs.List.{list_any, position_or_len, cons_option, list_all}
 use Rattle.std.specs.Option.{is_some, option_map}
 use Rattle.std.specs.Str.{bytes_eq}
 use Rattle.std.proofs.lemmas.Bool.Decides.{nat_tests}
 use Rattle.std.proofs.lemmas.List.{take-map, take-take}
-use Rattle.std.proofs.lemmas.List.Sums.{passes_at_first, sum_by-cons, count_by-le-length}
+use Rattle.std.proofs.lemmas.List.Sums.{passes_at_first, sum_by-cons}
 use Rattle.std.proofs.lemmas.Option.{slice_get-get_or, same_Some}
 use Rattle.std.proofs.lemmas.Slice.Eq.{bytes_eq-Decides}
 use Rattle.deck_reader.specs.declared.batch.Account.{Account}
@@ -13,10 +13,12 @@ use Rattle.deck_reader.specs.declared.batch.Flaw.TheVariants as flaws
 use Rattle.deck_reader.specs.declared.forms.JobCard.{JobCard}
 use Rattle.deck_reader.specs.declared.forms.AccountCard.{AccountCard}
 use Rattle.deck_reader.specs.JobView.{JobView}
-use Rattle.deck_reader.specs.Forms.{capital, folded, is_account, is_control, is_end, is_head}
+use Rattle.deck_reader.specs.declared.batch.Flaw.{Flaw}
+use Rattle.deck_reader.specs.Forms.{capital, folded, is_account, is_control, is_control_card, is_data, is_end, is_head, is_library}
 use Rattle.deck_reader.specs.JobCards.{job_card}
 use Rattle.deck_reader.specs.Options.{is_in_range, unset}
-use Rattle.deck_reader.specs.Batch.{Run, account_for, account_of, account_on, batch_of, before_head, body, first_of_each_name, flawed, job_from, job_of, job_on, jobs_of, opened, outside, runs, strays, written}
+use Rattle.deck_reader.specs.LibraryView.{LibraryView}
+use Rattle.deck_reader.specs.Batch.{Front, Run, account_for, account_of, account_on, batch_of, before_head, body, first_of_each_name, flawed, front_of, job_from, job_of, job_on, jobs_of, libraries_in, library_for, opened, outside, runs, shelf_cards, shelved, strays, written}
 use Rattle.deck_reader.specs.CardFlaws.{is_long, is_foul}
 use Rattle.deck_reader.proofs.Firsts.{after-none, before-none}
 use Rattle.account_book.specs.BookView.{openings_of}
@@ -25,51 +27,16 @@ use Rattle.algolw_meaning.specs.Charging.{charged}
 use Rattle.batch_listing.specs.Listing.{closing_lines, listing_of, sections}
 use Rattle.batch_listing.specs.Texts.{heading, closing, closing_line}
 use Rattle.account_book.specs.OwnJobs.{as_own, is_of, jobs_on, numbered, own_jobs}
-use Rattle.account_shares.specs.Own.{job_cards, own_cards, own_sections, runs_on}
+use Rattle.account_shares.specs.Own.{job_cards, kept_library_cards, own_cards, own_sections, runs_on}
 use Rattle.account_shares.specs.Laws.{FlawsOrAccounts, OwnBatch, OwnListing}
 use Rattle.account_statements.proofs.Balances.{own_balances}
+use Rattle.account_shares.proofs.Firsts.{any_take, before-at_once, before-clear, before-past_all, neither_of}
+use Rattle.account_shares.proofs.Kept.{account_no_library, all_counted, libraries_behind, no_heads, no_openings, one_if_written}
 use Rattle.account_shares.proofs.Money.{own_sections_alike}
-
-neither_of : (a b : Bool) → (a || b) ≡ false → (a ≡ false) × (b ≡ false)
-neither_of true b h = cc
-neither_of false b h = (refl, h)
-
--- ---- what stands before the first that passes
-
-clear_by : {X : Type 0} (b : Bool) (p : X → Bool) (x : X) (xs : List X) → p x ≡ b → list_any p (before_first p xs) ≡ false → list_any p (take (cond (not b) (1 + position_or_len p xs) 0) (x ∷ xs)) ≡ false
-clear_by true p x xs is rest = refl
-clear_by false p x xs is rest =
-    let e : 1 + position_or_len p xs ≡ suc (position_or_len p xs) = omega arith in
-    ap (λ (n : ℕ). list_any p (take n (x ∷ xs))) e ∙ ap (λ (b : Bool). b || list_any p (before_first p xs)) is ∙ rest
-
--- none of them passes
-before-clear : {X : Type 0} (p : X → Bool) (xs : List X) → list_any p (before_first p xs) ≡ false
-before-clear p [] = refl
-before-clear p (x ∷ xs) = clear_by (p x) p x xs refl (before-clear p xs)
-
-any_take : {X : Type 0} (p : X → Bool) (n : ℕ) (xs : List X) → list_any p xs ≡ false → list_any p (take n xs) ≡ false
-any_take p zero xs h = refl
-any_take p (suc n) [] h = refl
-any_take p (suc n) (x ∷ xs) h =
-    let parts = neither_of (p x) (list_any p xs) h in
-    ap (λ (b : Bool). b || list_any p (take n xs)) parts.0 ∙ any_take p n xs parts.1
-
--- behind those of which none passes, the first is found in the rest
-before-past_all : {X : Type 0} (p : X → Bool) (xs ys : List X) → list_any p xs ≡ false → before_first p (xs ++ ys) ≡ xs ++ before_first p ys
-before-past_all p [] ys h = refl
-before-past_all p (x ∷ xs) ys h =
-    let parts = neither_of (p x) (list_any p xs) h in
-    let e : 1 + position_or_len p (xs ++ ys) ≡ suc (position_or_len p (xs ++ ys)) = omega arith in
-    ap (λ (b : Bool). take (cond (not b) (1 + position_or_len p (xs ++ ys)) 0) (x ∷ xs ++ ys)) parts.0
-    ∙ ap (λ (n : ℕ). take n (x ∷ xs ++ ys)) e
-    ∙ ap (λ (l : List _). x ∷ l) (before-past_all p xs ys parts.1)
-
-before-at_once : {X : Type 0} (p : X → Bool) (x : X) (xs : List X) → p x ≡ true → before_first p (x ∷ xs) ≡ []
-before-at_once p x xs h = ap (λ (b : Bool). take (cond (not b) (1 + position_or_len p xs) 0) (x ∷ xs)) h
 
 -- ---- runs
 
-runs_past : (xs ys : List (List ℕ)) → list_any is_head xs ≡ false → runs (xs ++ ys) ≡ runs ys
+pub runs_past : (xs ys : List (List ℕ)) → list_any is_head xs ≡ false → runs (xs ++ ys) ≡ runs ys
 runs_past [] ys h = refl
 runs_past (x ∷ xs) ys h =
     let parts = neither_of (is_head x) (list_any is_head xs) h in
@@ -154,79 +121,90 @@ first_of_own accounts name account a found at =
 
 -- ---- jobs
 
--- what stands on a job card, by two tests
-abbrev pub read_job : Bool → Bool → ℕ → ℕ → JobCard → Option ℕ → List (List ℕ) → List (List ℕ) → JobView
-read_job ranged many number count card account deck data_cards =
-    cond ranged (cond many (flawed number count card account card.settings flaws.TooManyCards) (job_on number count card account deck data_cards)) (flawed number count card account unset flaws.NumberOutOfRange)
+-- the library that a job card names, or its flaw
+abbrev pub Found : Type 0
+Found = Result (Option LibraryView) Flaw
 
-account_by_ranges : (ranged many : Bool) (n m count : ℕ) (c : JobCard) (account : Option ℕ) (deck data_cards : List (List ℕ))
-    → (read_job ranged many n count c account deck data_cards).account ≡ (read_job ranged many m count c account deck data_cards).account
-account_by_ranges false many n m count c account deck data_cards = refl
-account_by_ranges true true n m count c account deck data_cards = refl
-account_by_ranges true false n m count c None deck data_cards = refl
-account_by_ranges true false n m count c (Some p) deck data_cards = refl
+-- what stands on a job card, by two tests
+abbrev pub read_job : Bool → Bool → ℕ → ℕ → JobCard → Option ℕ → Found → List (List ℕ) → List (List ℕ) → JobView
+read_job ranged many number count card account library deck data_cards =
+    cond ranged (cond many (flawed number count card account card.settings flaws.TooManyCards) (job_on number count card account library deck data_cards)) (flawed number count card account unset flaws.NumberOutOfRange)
+
+account_by_ranges : (ranged many : Bool) (n m count : ℕ) (c : JobCard) (account : Option ℕ) (library : Found) (deck data_cards : List (List ℕ))
+    → (read_job ranged many n count c account library deck data_cards).account ≡ (read_job ranged many m count c account library deck data_cards).account
+account_by_ranges false many n m count c account library deck data_cards = refl
+account_by_ranges true true n m count c account library deck data_cards = refl
+account_by_ranges true false n m count c None library deck data_cards = refl
+account_by_ranges true false n m count c (Some p) (Ok library) deck data_cards = refl
+account_by_ranges true false n m count c (Some p) (Err flaw) deck data_cards = refl
 
 -- the account of a job doesn't depend on its number
-pub account_by_any : (n m count : ℕ) (long foul : Bool) (card : Option JobCard) (account : Option ℕ) (deck data_cards : List (List ℕ))
-    → (job_from n count long foul card account deck data_cards).account ≡ (job_from m count long foul card account deck data_cards).account
-account_by_any n m count true foul card account deck data_cards = refl
-account_by_any n m count false true card account deck data_cards = refl
-account_by_any n m count false false None account deck data_cards = refl
-account_by_any n m count false false (Some c) account deck data_cards = account_by_ranges (is_in_range c.settings) (nat_lt 2000 count) n m count c account deck data_cards
+pub account_by_any : (n m count : ℕ) (long foul : Bool) (card : Option JobCard) (account : Option ℕ) (library : Found) (deck data_cards : List (List ℕ))
+    → (job_from n count long foul card account library deck data_cards).account ≡ (job_from m count long foul card account library deck data_cards).account
+account_by_any n m count true foul card account library deck data_cards = refl
+account_by_any n m count false true card account library deck data_cards = refl
+account_by_any n m count false false None account library deck data_cards = refl
+account_by_any n m count false false (Some c) account library deck data_cards = account_by_ranges (is_in_range c.settings) (nat_lt 2000 count) n m count c account library deck data_cards
 
 some_account : (account : ℕ) (payer : Option ℕ) → is_on account payer ≡ true → payer ≡ Some account
 some_account account None h = cc
 some_account account (Some p) h = let same : p ≡ account = grind (arith, nat_tests) in ap (λ (n : ℕ). Some n) same
 
 -- a job that can be read has the account of its card, where it has any
-paid_by : (ranged many : Bool) (account count : ℕ) (c : JobCard) (payer : Option ℕ) (deck data_cards : List (List ℕ)) → is_on account (read_job ranged many 0 count c payer deck data_cards).account ≡ true → payer ≡ Some account
-paid_by false many account count c payer deck data_cards h = some_account account payer h
-paid_by true true account count c payer deck data_cards h = some_account account payer h
-paid_by true false account count c None deck data_cards h = cc
-paid_by true false account count c (Some p) deck data_cards h = some_account account (Some p) h
+paid_by : (ranged many : Bool) (account count : ℕ) (c : JobCard) (payer : Option ℕ) (library : Found) (deck data_cards : List (List ℕ)) → is_on account (read_job ranged many 0 count c payer library deck data_cards).account ≡ true → payer ≡ Some account
+paid_by false many account count c payer library deck data_cards h = some_account account payer h
+paid_by true true account count c payer library deck data_cards h = some_account account payer h
+paid_by true false account count c None library deck data_cards h = cc
+paid_by true false account count c (Some p) (Ok library) deck data_cards h = some_account account (Some p) h
+paid_by true false account count c (Some p) (Err flaw) deck data_cards h = some_account account (Some p) h
 
-as_own_read : (ranged many : Bool) (n m count : ℕ) (c : JobCard) (account : ℕ) (deck data_cards : List (List ℕ)) → read_job ranged many n count c (Some 0) deck data_cards ≡ as_own n (read_job ranged many m count c (Some account) deck data_cards)
-as_own_read false many n m count c account deck data_cards = refl
-as_own_read true true n m count c account deck data_cards = refl
-as_own_read true false n m count c account deck data_cards = refl
+as_own_read : (ranged many : Bool) (n m count : ℕ) (c : JobCard) (account : ℕ) (library : Found) (deck data_cards : List (List ℕ)) → read_job ranged many n count c (Some 0) library deck data_cards ≡ as_own n (read_job ranged many m count c (Some account) library deck data_cards)
+as_own_read false many n m count c account library deck data_cards = refl
+as_own_read true true n m count c account library deck data_cards = refl
+as_own_read true false n m count c account (Ok library) deck data_cards = refl
+as_own_read true false n m count c account (Err flaw) deck data_cards = refl
 
-own_job : (long foul : Bool) (card : Option JobCard) (accounts : List Account) (account : ℕ) (a : Account) (n m count : ℕ) (deck data_cards : List (List ℕ)) → slice_get accounts account ≡ Some a
-    → is_on account (job_from 0 count long foul card (account_for accounts card) deck data_cards).account ≡ true
-    → job_from n count long foul card (account_for (a ∷ []) card) deck data_cards ≡ as_own n (job_from m count long foul card (account_for accounts card) deck data_cards)
-own_job true foul card accounts account a n m count deck data_cards at h = cc
-own_job false true card accounts account a n m count deck data_cards at h = cc
-own_job false false None accounts account a n m count deck data_cards at h = cc
-own_job false false (Some c) accounts account a n m count deck data_cards at h =
+own_job : (long foul : Bool) (card : Option JobCard) (accounts : List Account) (account : ℕ) (a : Account) (n m count : ℕ) (library : Found) (deck data_cards : List (List ℕ)) → slice_get accounts account ≡ Some a
+    → is_on account (job_from 0 count long foul card (account_for accounts card) library deck data_cards).account ≡ true
+    → job_from n count long foul card (account_for (a ∷ []) card) library deck data_cards ≡ as_own n (job_from m count long foul card (account_for accounts card) library deck data_cards)
+own_job true foul card accounts account a n m count library deck data_cards at h = cc
+own_job false true card accounts account a n m count library deck data_cards at h = cc
+own_job false false None accounts account a n m count library deck data_cards at h = cc
+own_job false false (Some c) accounts account a n m count library deck data_cards at h =
     let ranged = is_in_range c.settings in
     let many = nat_lt 2000 count in
-    let found : account_of accounts c.account ≡ Some account = paid_by ranged many account count c (account_of accounts c.account) deck data_cards h in
-    ap (λ (payer : Option ℕ). read_job ranged many n count c payer deck data_cards) (first_of_own accounts c.account account a found at)
-    ∙ as_own_read ranged many n m count c account deck data_cards
-    ∙ sym (ap (λ (payer : Option ℕ). as_own n (read_job ranged many m count c payer deck data_cards)) found)
+    let found : account_of accounts c.account ≡ Some account = paid_by ranged many account count c (account_of accounts c.account) library deck data_cards h in
+    ap (λ (payer : Option ℕ). read_job ranged many n count c payer library deck data_cards) (first_of_own accounts c.account account a found at)
+    ∙ as_own_read ranged many n m count c account library deck data_cards
+    ∙ sym (ap (λ (payer : Option ℕ). as_own n (read_job ranged many m count c payer library deck data_cards)) found)
 
-own_job_of : (accounts : List Account) (account : ℕ) (a : Account) (run : Run) (n m : ℕ) → slice_get accounts account ≡ Some a → runs_on accounts account run ≡ true
-    → job_of (a ∷ []) n run.head (body (closed run)) ≡ as_own n (job_of accounts m run.head (body run))
-own_job_of accounts account a run n m at h =
-    ap (job_of (a ∷ []) n run.head) (body_again run)
-    ∙ own_job (list_any is_long (run.head ∷ body run)) (list_any is_foul (run.head ∷ body run)) (job_card run.head) accounts account a n m (length (body run) + 1) _ _ at h
+-- the front of one account, with the same libraries
+abbrev alone : Account → Front → Front
+alone a front = record { accounts = a ∷ []; shelf = front.shelf }
 
-own_jobs_by : (b : Bool) (accounts : List Account) (account : ℕ) (a : Account) (run : Run) (rs : List Run) (n m : ℕ) → slice_get accounts account ≡ Some a → runs_on accounts account run ≡ b
-    → ((n : ℕ) → jobs_of (a ∷ []) n (map closed (filter (runs_on accounts account) rs)) ≡ numbered n (jobs_on account (jobs_of accounts (m + 1) rs)))
-    → jobs_of (a ∷ []) n (map closed (cond b (run ∷ filter (runs_on accounts account) rs) (filter (runs_on accounts account) rs)))
-    ≡ numbered n (cond b (job_of accounts m run.head (body run) ∷ jobs_on account (jobs_of accounts (m + 1) rs)) (jobs_on account (jobs_of accounts (m + 1) rs)))
-own_jobs_by true accounts account a run rs n m at is rest =
-    ap (λ (job : JobView). job ∷ jobs_of (a ∷ []) (n + 1) (map closed (filter (runs_on accounts account) rs))) (own_job_of accounts account a run n m at is)
-    ∙ ap (λ (jobs : List JobView). as_own n (job_of accounts m run.head (body run)) ∷ jobs) (rest (n + 1))
-own_jobs_by false accounts account a run rs n m at is rest = rest n
+own_job_of : (front : Front) (account : ℕ) (a : Account) (run : Run) (n m : ℕ) → slice_get front.accounts account ≡ Some a → runs_on front account run ≡ true
+    → job_of (alone a front) n run.head (body (closed run)) ≡ as_own n (job_of front m run.head (body run))
+own_job_of front account a run n m at h =
+    ap (job_of (alone a front) n run.head) (body_again run)
+    ∙ own_job (list_any is_long (run.head ∷ body run)) (list_any is_foul (run.head ∷ body run)) (job_card run.head) front.accounts account a n m (length (body run) + 1) (library_for front.shelf (job_card run.head)) _ _ at h
 
-own_jobs_of : (accounts : List Account) (account : ℕ) (a : Account) (rs : List Run) (n m : ℕ) → slice_get accounts account ≡ Some a
-    → jobs_of (a ∷ []) n (map closed (filter (runs_on accounts account) rs)) ≡ numbered n (jobs_on account (jobs_of accounts m rs))
-own_jobs_of accounts account a [] n m at = refl
-own_jobs_of accounts account a (run ∷ rs) n m at =
-    let same : runs_on accounts account run ≡ is_of account (job_of accounts m run.head (body run)) =
-    ap (is_on account) (account_by_any 0 m (length (body run) + 1) (list_any is_long (run.head ∷ body run)) (list_any is_foul (run.head ∷ body run)) (job_card run.head) (account_for accounts (job_card run.head)) _ _) in
-    own_jobs_by (runs_on accounts account run) accounts account a run rs n m at refl (λ k. own_jobs_of accounts account a rs k (m + 1) at)
-    ∙ ap (λ (b : Bool). numbered n (cond b (job_of accounts m run.head (body run) ∷ jobs_on account (jobs_of accounts (m + 1) rs)) (jobs_on account (jobs_of accounts (m + 1) rs)))) same
+own_jobs_by : (b : Bool) (front : Front) (account : ℕ) (a : Account) (run : Run) (rs : List Run) (n m : ℕ) → slice_get front.accounts account ≡ Some a → runs_on front account run ≡ b
+    → ((n : ℕ) → jobs_of (alone a front) n (map closed (filter (runs_on front account) rs)) ≡ numbered n (jobs_on account (jobs_of front (m + 1) rs)))
+    → jobs_of (alone a front) n (map closed (cond b (run ∷ filter (runs_on front account) rs) (filter (runs_on front account) rs)))
+    ≡ numbered n (cond b (job_of front m run.head (body run) ∷ jobs_on account (jobs_of front (m + 1) rs)) (jobs_on account (jobs_of front (m + 1) rs)))
+own_jobs_by true front account a run rs n m at is rest =
+    ap (λ (job : JobView). job ∷ jobs_of (alone a front) (n + 1) (map closed (filter (runs_on front account) rs))) (own_job_of front account a run n m at is)
+    ∙ ap (λ (jobs : List JobView). as_own n (job_of front m run.head (body run)) ∷ jobs) (rest (n + 1))
+own_jobs_by false front account a run rs n m at is rest = rest n
+
+own_jobs_of : (front : Front) (account : ℕ) (a : Account) (rs : List Run) (n m : ℕ) → slice_get front.accounts account ≡ Some a
+    → jobs_of (alone a front) n (map closed (filter (runs_on front account) rs)) ≡ numbered n (jobs_on account (jobs_of front m rs))
+own_jobs_of front account a [] n m at = refl
+own_jobs_of front account a (run ∷ rs) n m at =
+    let same : runs_on front account run ≡ is_of account (job_of front m run.head (body run)) =
+    ap (is_on account) (account_by_any 0 m (length (body run) + 1) (list_any is_long (run.head ∷ body run)) (list_any is_foul (run.head ∷ body run)) (job_card run.head) (account_for front.accounts (job_card run.head)) (library_for front.shelf (job_card run.head)) _ _) in
+    own_jobs_by (runs_on front account run) front account a run rs n m at refl (λ k. own_jobs_of front account a rs k (m + 1) at)
+    ∙ ap (λ (b : Bool). numbered n (cond b (job_of front m run.head (body run) ∷ jobs_on account (jobs_of front (m + 1) rs)) (jobs_on account (jobs_of front (m + 1) rs)))) same
 
 -- ---- the card of the account
 
@@ -267,26 +245,36 @@ opened_alone stated a h = ap (λ (o : Option Account). take 500 (first_of_each_n
 
 -- ---- the batch
 
+at_most_one : (b : Bool) → cond b 1 0 ≤ 1
+at_most_one true = omega arith
+at_most_one false = omega arith
+
 pub own_batch : OwnBatch
 own_batch cards card account a at states =
-    let accounts = opened (before_head cards) in
+    let front = front_of None cards in
+    let libs = kept_library_cards cards in
     let own = own_cards account cards in
-    let mine = filter (runs_on accounts account) (runs cards) in
-    let are = some_are (runs_on accounts account) (runs cards) (runs_are cards) in
-    let other : is_head card ≡ false = not_head_by (is_head card) card refl (opens_account card a states) in
-    let none : list_any is_head (card ∷ []) ≡ false = ap (λ (b : Bool). b || false) other in
-    let front : before_head (card ∷ own) ≡ card ∷ [] = before-past_all is_head (card ∷ []) own none ∙ ap (λ (xs : List (List ℕ)). card ∷ xs) (first_is_head mine are) in
-    let all : runs (card ∷ own) ≡ map closed mine = runs_past (card ∷ []) own none ∙ runs_again mine are in
-    let alone : opened (card ∷ []) ≡ a ∷ [] = opened_alone (account_on card) a states in
-    let opens : opened (before_head (card ∷ own)) ≡ a ∷ [] = ap opened front ∙ alone in
-    let jobs : jobs_of (opened (before_head (card ∷ own))) 1 (runs (card ∷ own)) ≡ own_jobs account (jobs_of accounts 1 (runs cards)) =
-    ap (λ (open_ones : List Account). jobs_of open_ones 1 (runs (card ∷ own))) opens ∙ ap (jobs_of (a ∷ []) 1) all ∙ own_jobs_of accounts account a (runs cards) 1 1 at in
-    let few : written (card ∷ []) ≤ 1 = count_by-le-length (λ c. nat_lt 0 (length c)) (card ∷ []) in
-    let one : length (opened (before_head (card ∷ own))) ≡ 1 = ap length opens in
-    let shown : written (before_head (card ∷ own)) ≡ written (card ∷ []) = ap written front in
+    let mine = filter (runs_on front account) (runs cards) in
+    let are = some_are (runs_on front account) (runs cards) (runs_are cards) in
+    let opens : is_account card ≡ true = opens_account card a states in
+    let other : is_head card ≡ false = not_head_by (is_head card) card refl opens in
+    let none : list_any is_head (card ∷ libs) ≡ false = ap (λ (b : Bool). b || list_any is_head libs) other ∙ no_heads cards in
+    let first : before_head (card ∷ own) ≡ card ∷ libs = before-past_all is_head (card ∷ libs) (flat_map job_cards mine) none ∙ ap (λ (xs : List (List ℕ)). (card ∷ libs) ++ xs) (first_is_head mine are) ∙ append-nil (card ∷ libs) in
+    let all : runs (card ∷ own) ≡ map closed mine = runs_past (card ∷ libs) (flat_map job_cards mine) none ∙ runs_again mine are in
+    let one : opened (card ∷ libs) ≡ a ∷ [] = ap (λ (xs : List Account). take 500 (first_of_each_name (cons_option (account_on card) xs))) (no_openings cards) ∙ opened_alone (account_on card) a states in
+    let accounts : opened (before_head (card ∷ own)) ≡ a ∷ [] = ap opened first ∙ one in
+    let control : is_control_card card ≡ true = ap (λ (b : Bool). b || (is_head card || (is_data card || (is_end card || is_library card)))) opens in
+    let libraries : libraries_in (before_head (card ∷ own)) ≡ libraries_in (before_head cards) = ap libraries_in first ∙ libraries_behind cards card control (account_no_library card a states) in
+    let alike : front_of None (card ∷ own) ≡ alone a front = λ i. record { accounts = accounts i; shelf = map shelved (libraries i) } in
+    let jobs : jobs_of (front_of None (card ∷ own)) 1 (runs (card ∷ own)) ≡ own_jobs account (jobs_of front 1 (runs cards)) =
+    ap (λ (f : Front). jobs_of f 1 (runs (card ∷ own))) alike ∙ ap (jobs_of (alone a front) 1) all ∙ own_jobs_of front account a (runs cards) 1 1 at in
+    let few : one_if_written card ≤ 1 = at_most_one (nat_lt 0 (length card)) in
+    let opening : length (opened (before_head (card ∷ own))) ≡ 1 = ap length accounts in
+    let shelf : shelf_cards (libraries_in (before_head (card ∷ own))) ≡ shelf_cards (libraries_in (before_head cards)) = ap shelf_cards libraries in
+    let shown : written (before_head (card ∷ own)) ≡ one_if_written card + written libs = ap written first ∙ sum_by-cons one_if_written card libs in
     let outer : sum_by (λ run. written (outside run)) (runs (card ∷ own)) ≡ 0 = ap (sum_by (λ run. written (outside run))) all ∙ none_outside mine in
-    let stray : strays None (card ∷ own) ≡ 0 = omega (arith, few, one, shown, outer) in
-    λ i. record { accounts = opens i; jobs = jobs i; stray = stray i }
+    let stray : strays None (card ∷ own) ≡ 0 = omega (arith, few, opening, shelf, shown, all_counted cards, outer) in
+    λ i. record { accounts = accounts i; jobs = jobs i; stray = stray i }
 
 -- ---- the listing
 
@@ -323,24 +311,25 @@ own_again account jobs = numbered_again 1 (jobs_on account jobs)
 abbrev flaw_or_account : JobView → Bool
 flaw_or_account job = is_some job.flaw || is_some job.account
 
-read_either : (ranged many : Bool) (number count : ℕ) (c : JobCard) (payer : Option ℕ) (deck data_cards : List (List ℕ)) → flaw_or_account (read_job ranged many number count c payer deck data_cards) ≡ true
-read_either false many number count c payer deck data_cards = refl
-read_either true true number count c payer deck data_cards = refl
-read_either true false number count c None deck data_cards = refl
-read_either true false number count c (Some p) deck data_cards = refl
+read_either : (ranged many : Bool) (number count : ℕ) (c : JobCard) (payer : Option ℕ) (library : Found) (deck data_cards : List (List ℕ)) → flaw_or_account (read_job ranged many number count c payer library deck data_cards) ≡ true
+read_either false many number count c payer library deck data_cards = refl
+read_either true true number count c payer library deck data_cards = refl
+read_either true false number count c None library deck data_cards = refl
+read_either true false number count c (Some p) (Ok library) deck data_cards = refl
+read_either true false number count c (Some p) (Err flaw) deck data_cards = refl
 
-either : (long foul : Bool) (number count : ℕ) (card : Option JobCard) (payer : Option ℕ) (deck data_cards : List (List ℕ)) → flaw_or_account (job_from number count long foul card payer deck data_cards) ≡ true
-either true foul number count card payer deck data_cards = refl
-either false true number count card payer deck data_cards = refl
-either false false number count None payer deck data_cards = refl
-either false false number count (Some c) payer deck data_cards = read_either (is_in_range c.settings) (nat_lt 2000 count) number count c payer deck data_cards
+either : (long foul : Bool) (number count : ℕ) (card : Option JobCard) (payer : Option ℕ) (library : Found) (deck data_cards : List (List ℕ)) → flaw_or_account (job_from number count long foul card payer library deck data_cards) ≡ true
+either true foul number count card payer library deck data_cards = refl
+either false true number count card payer library deck data_cards = refl
+either false false number count None payer library deck data_cards = refl
+either false false number count (Some c) payer library deck data_cards = read_either (is_in_range c.settings) (nat_lt 2000 count) number count c payer library deck data_cards
 
-each_either : (accounts : List Account) (number : ℕ) (rs : List Run) → list_all (λ job. is_some job.flaw || is_some job.account) (jobs_of accounts number rs) ≡ true
-each_either accounts number [] = refl
-each_either accounts number (run ∷ rs) =
-    ap (λ (b : Bool). b && list_all (λ job. is_some job.flaw || is_some job.account) (jobs_of accounts (number + 1) rs))
-    (either (list_any is_long (run.head ∷ body run)) (list_any is_foul (run.head ∷ body run)) number (length (body run) + 1) (job_card run.head) (account_for accounts (job_card run.head)) _ _)
-    ∙ each_either accounts (number + 1) rs
+each_either : (front : Front) (number : ℕ) (rs : List Run) → list_all (λ job. is_some job.flaw || is_some job.account) (jobs_of front number rs) ≡ true
+each_either front number [] = refl
+each_either front number (run ∷ rs) =
+    ap (λ (b : Bool). b && list_all (λ job. is_some job.flaw || is_some job.account) (jobs_of front (number + 1) rs))
+    (either (list_any is_long (run.head ∷ body run)) (list_any is_foul (run.head ∷ body run)) number (length (body run) + 1) (job_card run.head) (account_for front.accounts (job_card run.head)) (library_for front.shelf (job_card run.head)) _ _)
+    ∙ each_either front (number + 1) rs
 
 pub flaws_or_accounts : FlawsOrAccounts
-flaws_or_accounts cards = each_either (opened (before_head cards)) 1 (runs cards)
+flaws_or_accounts given cards = each_either (front_of given cards) 1 (runs cards)

@@ -1,5 +1,8 @@
+pub mod Firsts
+pub mod Kept
 pub mod Money
 pub mod Cut
+pub mod Again
 pub mod Bytes
 pub mod Sameness
 pub mod Nights

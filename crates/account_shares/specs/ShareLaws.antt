@@ -1,5 +1,5 @@
 -- A batch can be cut into any shares of its accounts, and into nights one after the other.
-use Rattle.std.specs.Prelude.{ℕ, ◌≡◌, true, Bool, List, [], ◌∷◌, ◌++◌, false, Option, Some, None, map, slice_get, slice_index}
+use Rattle.std.specs.Prelude.{ℕ, ◌≡◌, true, Bool, List, [], ◌∷◌, ◌++◌, Option, Some, map, slice_get, slice_index}
 use Rattle.deck_reader.specs.declared.batch.Account.{Account}
 use Rattle.deck_reader.specs.declared.batch.Batch.{Batch}
 use Rattle.deck_reader.specs.JobView.{JobView}
@@ -37,17 +37,17 @@ abbrev pub ShareListing : Type 0
 ShareListing = (own : Option ℕ → Bool) (b : Batch) → listing_of (share_of own b)
     ≡ heading ++ sections_in own 1 (openings_of b.accounts) [] b.jobs ++ closing (closing_in own 0 (openings_of b.accounts) b.jobs b.accounts) 0
 
--- where a batch's accounts are given, the cards of a share's jobs, with the share's accounts, are the batch of the share
+-- where a batch's accounts are given, the cards of the libraries and of a share's jobs, with the share's accounts, are the batch of the share
 abbrev pub ShareCards : Type 0
 ShareCards = (own : Option ℕ → Bool) (accounts : List Account) (cards : List (List ℕ))
     → batch_of (Some (part_from own 0 accounts)) (cards_in own accounts cards) ≡ share_of own (batch_of (Some accounts) cards)
 
--- so are their bytes, in a share that has no job without an account; such a job may hold bytes that are read otherwise when they are read again
+-- so are their bytes
 abbrev pub ShareInput : Type 0
-ShareInput = (own : Option ℕ → Bool) (accounts : List Account) (bytes : List ℕ) → own None ≡ false
+ShareInput = (own : Option ℕ → Bool) (accounts : List Account) (bytes : List ℕ)
     → batch_of (Some (part_from own 0 accounts)) (cards (text_of (cards_in own accounts (cards bytes)))) ≡ share_of own (batch_of (Some accounts) (cards bytes))
 
--- one account's card and jobs are a share
+-- one account and its jobs are a share
 abbrev pub OneAccountShare : Type 0
 OneAccountShare = (b : Batch) (account : ℕ) (a : Account) → slice_get b.accounts account ≡ Some a
     → share_of (is_on account) b ≡ record { accounts = a ∷ []; jobs = own_jobs account b.jobs; stray = 0 }

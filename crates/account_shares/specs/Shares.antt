@@ -3,14 +3,14 @@ use Rattle.std.specs.Prelude.{ℕ, zero, suc, ◌+◌, ◌==◌, Bool, List, [],
 use Rattle.deck_reader.specs.declared.batch.Account.{Account}
 use Rattle.deck_reader.specs.declared.batch.Batch.{Batch}
 use Rattle.deck_reader.specs.JobView.{JobView}
-use Rattle.deck_reader.specs.Batch.{Run, job_of, runs}
+use Rattle.deck_reader.specs.Batch.{Front, Run, front_of, job_of, runs}
 use Rattle.deck_reader.specs.Batch as batches
 use Rattle.account_book.specs.BookView.{openings_of}
 use Rattle.account_book.specs.Places.{place_balance}
 use Rattle.algolw_meaning.specs.Charging.{charged}
 use Rattle.batch_listing.specs.Listing.{body, closed_accounts, section, verdict}
 use Rattle.batch_listing.specs.Texts.{closing_line, title}
-use Rattle.account_shares.specs.Own.{job_cards, section_as}
+use Rattle.account_shares.specs.Own.{job_cards, kept_library_cards, section_as}
 
 -- how many account numbers below this one are in a share: the number that this one's account has there
 abbrev pub number_in : (Option ℕ → Bool) → ℕ → ℕ
@@ -46,12 +46,12 @@ share_of own b = record { accounts = part_from own 0 b.accounts; jobs = jobs_in 
 -- ---- their cards, where a batch's accounts are given
 
 -- whether a run's job is in the share
-abbrev pub run_is_in : (Option ℕ → Bool) → List Account → Run → Bool
-run_is_in own accounts run = is_in own (job_of accounts 0 run.head (batches.body run))
+abbrev pub run_is_in : (Option ℕ → Bool) → Front → Run → Bool
+run_is_in own front run = is_in own (job_of front 0 run.head (batches.body run))
 
--- the cards of the share's jobs
+-- the cards of the libraries, and of the share's jobs
 abbrev pub cards_in : (Option ℕ → Bool) → List Account → List (List ℕ) → List (List ℕ)
-cards_in own accounts cards = flat_map job_cards (filter (run_is_in own accounts) (runs cards))
+cards_in own accounts cards = kept_library_cards cards ++ flat_map job_cards (filter (run_is_in own (front_of (Some accounts) cards)) (runs cards))
 
 -- ---- what they have in the whole batch
 

@@ -1,5 +1,5 @@
 // A batch cut into its accounts, each with its jobs.
-ghost use Rattle.account_shares.specs.Laws.{FlawedSections, FlawsOrAccounts, OwnBatch, OwnBodies, OwnInput, OwnInputListing, OwnInputStatement, OwnListing, OwnSections, OwnStatement, SectionsFromShares};
+ghost use Rattle.account_shares.specs.Laws.{CardsArePlain, FlawedSections, FlawsOrAccounts, OwnBatch, OwnBodies, OwnInput, OwnInputListing, OwnInputStatement, OwnListing, OwnSections, OwnStatement, SectionsFromShares};
 
 /// What stands below a job's title is the same behind its account's jobs alone.
 pub fn own_bodies()
@@ -11,7 +11,7 @@ pub fn own_sections()
     ensures { OwnSections }
 {}
 
-/// A card that opens an account and the cards of its jobs are a batch of that account and its jobs.
+/// A card that opens an account, the cards of the libraries and those of its jobs are a batch of that account and its jobs.
 pub fn own_batch()
     ensures { OwnBatch }
 {}
@@ -36,7 +36,12 @@ pub fn flaws_or_accounts()
     ensures { FlawsOrAccounts }
 {}
 
-/// An input of a card that opens an account, and of its jobs' cards, is the batch of that account and its jobs.
+/// The cards of every input are the same when they are read again, with a carriage return behind each.
+pub fn cards_are_plain()
+    ensures { CardsArePlain }
+{}
+
+/// An input of a card that opens an account, and of the libraries' and its jobs' cards, is the batch of that account and its jobs.
 pub fn own_input()
     ensures { OwnInput }
 {}

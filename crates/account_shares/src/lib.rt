@@ -5,8 +5,9 @@ mod laws;
 mod share_laws;
 
 pub use laws::{
-    flawed_sections, flaws_or_accounts, own_batch, own_bodies, own_input, own_input_listing,
-    own_input_statement, own_listing, own_sections, own_statement, sections_from_shares,
+    cards_are_plain, flawed_sections, flaws_or_accounts, own_batch, own_bodies, own_input,
+    own_input_listing, own_input_statement, own_listing, own_sections, own_statement,
+    sections_from_shares,
 };
 pub use share_laws::{
     balances_in_turn, night_listing, one_account_share, section_in_turn, sections_from_closings,

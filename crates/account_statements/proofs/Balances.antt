@@ -8,8 +8,8 @@ use Rattle.account_book.specs.Charges.{charge, reserve}
 use Rattle.account_book.specs.OwnJobs.{as_own, is_of, jobs_on, numbered, own_jobs}
 use Rattle.account_book.specs.Places.{Claim, account_by, after, is_on, place_balance}
 use Rattle.algolw_meaning.specs.Charging.{charged}
-use Rattle.algolw_meaning.specs.DeckDiagnostics.{Deck, IsProgram, IsWrong, NothingFound, deck_of}
-use Rattle.algolw_meaning.specs.Meaning.{JobResult, shown_diagnostics}
+use Rattle.algolw_meaning.specs.DeckDiagnostics.{Deck, IsProgram, IsWrong, NothingFound, job_deck}
+use Rattle.algolw_meaning.specs.Meaning.{JobResult, job_library, shown_diagnostics}
 use Rattle.algolw_meaning.specs.Running.{job_result, result_of_deck}
 use Rattle.value_ops.specs.declared.places.Diagnostic.{Diagnostic}
 use Rattle.account_statements.specs.Laws.{OwnBalances, ResultsByContent}
@@ -23,7 +23,7 @@ same_result [] NothingFound job number account = refl
 same_result (f ∷ faults) deck job number account = refl
 
 pub results_by_content : ResultsByContent
-results_by_content job number account = same_result (shown_diagnostics job.deck) (deck_of job.deck) job number account
+results_by_content job number account = same_result (shown_diagnostics (job_library job) job.deck) (job_deck (job_library job) job.deck) job number account
 
 -- ---- balances
 

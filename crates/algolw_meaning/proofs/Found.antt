@@ -15,11 +15,10 @@ use Rattle.algolw_grammar.specs.Parsing.{parsed, diagnostic_of}
 use Rattle.algolw_grammar.proofs.Verdict.{answered, one_answer}
 use Rattle.algolw_typing.specs.Faults.{program_faults}
 use Rattle.algolw_meaning.specs.DeckDiagnostics.{Deck, IsProgram, IsWrong, NothingFound, DecksAreRead, DiagnosticsOfDecks, HasDiagnostics, HasFault, HasProgram, IsFound, answer_deck, deck_diagnostics, deck_of, diagnostics_found, reading_deck}
-use Rattle.algolw_meaning.specs.Meaning.{shown_diagnostics}
 
 -- ---- the last token of a deck is its end
 
-ended_behind : (t : Token) (ts : List Token) → IsEnded ts → IsEnded (t ∷ ts)
+pub ended_behind : (t : Token) (ts : List Token) → IsEnded ts → IsEnded (t ∷ ts)
 ended_behind t ts (front, p, e) = (t ∷ front, p, ap (λ x. t ∷ x) e)
 
 finish_kept : (p : Place) (e : Bool) → IsEnded (kept e (finish_at p ∷ []))
@@ -35,7 +34,7 @@ kept_ended (token {p = p} {ts = ts} k u w r g) e = go (e && is_name k) (kept_end
     go true h i = h
     go false h i = ended_behind (record { place = p; kind = k }) (kept (is_end k) ts) i
 
-deck_ended : (deck : List (List ℕ)) (tokens : List Token) → AreTokens deck tokens → IsEnded tokens
+pub deck_ended : (deck : List (List ℕ)) (tokens : List Token) → AreTokens deck tokens → IsEnded tokens
 deck_ended deck tokens (all, g, e) = subst IsEnded (sym e) (kept_ended g false)
 
 -- ---- what is found of a deck
@@ -106,16 +105,3 @@ found_diagnostics deck NothingFound h = absurd h
 
 pub diagnostics_of_decks : DiagnosticsOfDecks
 diagnostics_of_decks deck = subst (HasDiagnostics deck) (sym (diagnostics_are deck)) (found_diagnostics deck (deck_of deck) (deck_found deck))
-
--- ---- what is shown of them
-
-found_shown : (deck : List (List ℕ)) (d : Deck) → IsFound deck d → shown_diagnostics deck ≡ take 20 (diagnostics_found d)
-found_shown deck d h = ap (take 20) (diagnostics_are deck ∙ ap diagnostics_found (sym (decks_are_read.only deck d h)))
-
--- the fault of the tokens or the form, alone
-pub fault_shown : (deck : List (List ℕ)) (d : Diagnostic) → HasFault deck d → shown_diagnostics deck ≡ d ∷ []
-fault_shown deck d h = found_shown deck (IsWrong d) h
-
--- the first twenty faults of a program
-pub program_shown : (deck : List (List ℕ)) (x : Phrase) → HasProgram deck x → shown_diagnostics deck ≡ take 20 (program_faults x)
-program_shown deck x h = found_shown deck (IsProgram x) h

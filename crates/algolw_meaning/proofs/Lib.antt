@@ -1,4 +1,5 @@
 pub mod Within
 pub mod Found
+pub mod Composing
 pub mod Results
 pub mod Charging

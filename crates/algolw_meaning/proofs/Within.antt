@@ -6,9 +6,9 @@ use Rattle.algolw_typing.specs.Programs.{program_of}
 use Rattle.program_meaning.specs.Laws.{KeepsItsLimits}
 use Rattle.program_meaning.specs.Translating.{program_phrase}
 use Rattle.program_meaning.proofs.Runs.{runs_keep_their_limits}
-use Rattle.algolw_meaning.specs.DeckDiagnostics.{Deck, IsProgram, IsWrong, NothingFound, deck_of}
+use Rattle.algolw_meaning.specs.DeckDiagnostics.{Deck, IsProgram, IsWrong, NothingFound, job_deck}
 use Rattle.algolw_meaning.specs.Laws.{KeepsTheJob, Within}
-use Rattle.algolw_meaning.specs.Meaning.{JobResult, shown_diagnostics}
+use Rattle.algolw_meaning.specs.Meaning.{JobResult, job_library, shown_diagnostics}
 use Rattle.algolw_meaning.specs.Running.{job_result, result_of_deck, setting_of}
 
 deck_keeps : (faults : List Diagnostic) (deck : Deck) (job : JobView) → KeepsTheJob job (result_of_deck faults deck job)
@@ -20,7 +20,7 @@ deck_keeps [] (IsWrong d) job = record { cards = refl; steps = omega arith; line
 deck_keeps [] NothingFound job = record { cards = refl; steps = omega arith; lines = omega arith }
 
 pub job_keeps : (job : JobView) → KeepsTheJob job (job_result job)
-job_keeps job = deck_keeps (shown_diagnostics job.deck) (deck_of job.deck) job
+job_keeps job = deck_keeps (shown_diagnostics (job_library job) job.deck) (job_deck (job_library job) job.deck) job
 
 kept_within : (job : JobView) (result : JobResult) → KeepsTheJob job result → Within job result
 kept_within job result k = (omega (arith, k.cards), omega (arith, k.cards, k.steps, k.lines))

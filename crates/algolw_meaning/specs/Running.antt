@@ -10,8 +10,8 @@ use Rattle.program_meaning.specs.Translating.{program_phrase}
 use Rattle.program_meaning.specs.State.{Outcome, on, jump, stop, Setting, Given, Why, by_limit}
 use Rattle.program_meaning.specs.Copying.{Closed}
 use Rattle.program_meaning.specs.Results.{outcome, state_of, ending_text, printed_lines, dump_of, begun_at}
-use Rattle.algolw_meaning.specs.DeckDiagnostics.{Deck, IsProgram, deck_of}
-use Rattle.algolw_meaning.specs.Meaning.{JobResult, counts_of, diagnosed, shown_diagnostics}
+use Rattle.algolw_meaning.specs.DeckDiagnostics.{Deck, IsProgram, job_deck}
+use Rattle.algolw_meaning.specs.Meaning.{JobResult, counts_of, diagnosed, job_library, shown_diagnostics}
 use Rattle.algolw_meaning.specs.Texts.{line, sum_line}
 use Rattle.algolw_meaning.specs.declared.ending.Ending.{Ending}
 use Rattle.algolw_meaning.specs.declared.ending.Ending.TheVariants as ending
@@ -78,6 +78,6 @@ abbrev pub result_of_deck : List Diagnostic → Deck → JobView → JobResult
 result_of_deck [] (IsProgram x) job = run_result job (program_of x).statements (program_outcome job (program_of x))
 result_of_deck faults deck job = diagnosed faults job
 
--- a deck with a fault is diagnosed; every other one is a program, which is run
+-- a job with a fault is diagnosed; every other one is a program, which is run
 abbrev pub job_result : JobView → JobResult
-job_result job = result_of_deck (shown_diagnostics job.deck) (deck_of job.deck) job
+job_result job = result_of_deck (shown_diagnostics (job_library job) job.deck) (job_deck (job_library job) job.deck) job

@@ -8,7 +8,7 @@ use Rattle.algolw_meaning.specs.declared.ending.Ending.TheVariants.{Normal, Faul
 
 -- a job of so many cards, with these limits
 abbrev pub job : (cards steps lines : ℕ) → (given deck : List (List ℕ)) → JobView
-job cards steps lines given deck = record { number = 1; name = codes "JOB"; account_name = codes "ADA"; account = Some 0; deck = deck; data_cards = given; steps = steps; lines = lines; cards = cards; flaw = None }
+job cards steps lines given deck = record { number = 1; name = codes "JOB"; account_name = codes "ADA"; account = Some 0; library = None; deck = deck; data_cards = given; steps = steps; lines = lines; cards = cards; flaw = None }
 
 -- a body of these lines, what the job used, and how it ended
 abbrev pub section : List (List ℕ) → (cards steps lines : ℕ) → Ending → JobResult

@@ -1,5 +1,5 @@
 ghost use Rattle.algolw_meaning.specs.CallingDecks.{CallingDecksGive};
-ghost use Rattle.algolw_meaning.specs.DeckDiagnostics.{DecksAreRead, DiagnosticsOfDecks};
+ghost use Rattle.algolw_meaning.specs.DeckDiagnostics.{DecksAreRead, DiagnosticsOfDecks, DiagnosticsOfJobs, JobsAreRead};
 ghost use Rattle.algolw_meaning.specs.Laws.{ResultWithin, ResultsOfJobs};
 ghost use Rattle.algolw_meaning.specs.ManualDecks.{ManualDecksGive};
 ghost use Rattle.algolw_meaning.specs.ProgramDecks.{DecksHaveTheirParts};
@@ -14,8 +14,8 @@ pub fn result_within()
     ensures { ResultWithin }
 {}
 
-/// A job shows the one fault of its deck's tokens or form; or the first twenty of the program that they spell; or what
-/// this program gives, which has none.
+/// A job shows the one fault of its library, or of its deck's tokens or form; or the first twenty of the program that they
+/// spell; or what this program gives, which has none.
 pub fn results_of_jobs()
     ensures { ResultsOfJobs }
 {}
@@ -28,6 +28,17 @@ pub fn decks_are_read()
 /// The diagnostics of a deck are that of its tokens or form, alone, or those of the names and types of its program.
 pub fn diagnostics_of_decks()
     ensures { DiagnosticsOfDecks }
+{}
+
+/// A deck with its library has the library's one fault, or else that of the deck's tokens or form; or it is the library's
+/// block with the deck's program as its one item. It is one of these, and only one.
+pub fn jobs_are_read()
+    ensures { JobsAreRead }
+{}
+
+/// The diagnostics of a deck with its library are that one fault, alone, or those of the names and types of this program.
+pub fn diagnostics_of_jobs()
+    ensures { DiagnosticsOfJobs }
 {}
 
 /// Each deck of a table has exactly the diagnostics of its names and types that stand beside it.

@@ -161,6 +161,14 @@ block_at k b block is held =
     ap kind_tree is ∙ ap (λ zs. Tree.Block zs (items_tree (hidden-the_row-Item-4 b.value.items))) (vec_decls b.value.decls)
     ∙ ap (Tree.Block (decls_of (map decl_tree b.value.decls.items))) (vec_items b.value.items) ∙ ap block_tree (sym held)
 
+-- where the declarations and the items are handed on
+pub block_parts_at : (k : Kind) (b : Box Block Global) (x y : Block) (decls : List Decl) (items : List Item) → k ≡ a_block b → x ≡ b.value → y ≡ b.value → decls ≡ x.decls.items → items ≡ y.items.items
+    → kind_tree k ≡ Tree.Block (decls_of (map decl_tree decls)) (items_of (map item_tree items))
+block_parts_at k b x y decls items is held_x held_y of_x of_y =
+    block_at k b y is held_y ∙ ap (λ (z : Block). Tree.Block (decls_of (map decl_tree z.decls.items)) (items_of (map item_tree y.items.items))) (held_y ∙ sym held_x)
+    ∙ ap (λ (ds : List Decl). Tree.Block (decls_of (map decl_tree ds)) (items_of (map item_tree y.items.items))) (sym of_x)
+    ∙ ap (λ (its : List Item). Tree.Block (decls_of (map decl_tree decls)) (items_of (map item_tree its))) (sym of_y)
+
 pub actuals_at : (p : Place) (k : ListKind) (v : Vec Actual Global) (xs : List Actual) → k ≡ Actuals v → xs ≡ v.items → listing_tree p k ≡ Tree.OfActuals p (actuals_of (map actual_tree xs))
 actuals_at p k v xs e e1 = ap (listing_tree p) e ∙ ap (Tree.OfActuals p) (vec_actuals v ∙ ap (λ ys. actuals_of (map actual_tree ys)) (sym e1))
 

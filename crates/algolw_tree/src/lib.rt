@@ -6,6 +6,7 @@ mod programs;
 mod spelling;
 mod standard;
 mod tokens;
+mod whole;
 mod words;
 
 pub use phrases::{
@@ -21,4 +22,5 @@ pub use programs::{
 pub use spelling::{ShortName, Spelling};
 pub use standard::{Basic, STANDARD, Standard, UnaryOp, Width};
 pub use tokens::{Literal, Symbol, Token, TokenKind, Word};
+pub use whole::{LIBRARY_PLACE, MOST_DECK_CARDS, Whole};
 pub use words::WORDS;

@@ -17,7 +17,7 @@ use crate::verdict::{Verdict, decide};
 use account_book::{Book, Decision, charge_of};
 use batch_summary::{Entry, Outcome, Tally};
 use deck_reader::{Account, Job};
-use job_runner::{Brought, Desk, Ended, Ending, run_job};
+use job_runner::{Brought, Desk, Ended, Ending, Shelf, run_job};
 use std::alloc::{AllocError, Global};
 use std::sync::Arc;
 
@@ -259,7 +259,7 @@ fn run_here(alloc: Global, desk: &mut Option<Desk>, job: &Arc<Job>) -> Result<En
         Some(desk) => desk,
         None => Desk::new(alloc)?,
     };
-    let ran = run_job(alloc, &mut own, job);
+    let ran = run_job(alloc, &mut own, &mut Shelf::new(alloc), job);
     *desk = Some(own);
     ran
 }

@@ -1,7 +1,8 @@
 ghost use Rattle.std.specs.Prelude.{◌≡◌, OnOk, map};
 ghost use Rattle.algolw_tree.specs.Tree as T;
 ghost use Rattle.algolw_tree.specs.Grammar.{phrases_of, links_of, lists_of, actuals_of, items_of, decls_of, bounds_of};
-ghost use Rattle.algolw_tree.specs.View.{tree, link_tree, list_tree, actual_tree, part_tree, item_tree, decl_tree, bound_tree, optional_tree, procedure_tree, applied_tree, assignment_tree, relation_tree, repetition_tree, chain_tree, conditional_tree, case_value_tree, case_do_tree, for_step_tree, for_list_tree, block_tree};
+ghost use Rattle.algolw_tree.specs.View.{tree, link_tree, list_tree, actual_tree, part_tree, item_tree, decl_tree, bound_tree, optional_tree, procedure_tree, applied_tree, assignment_tree, relation_tree, repetition_tree, chain_tree, conditional_tree, case_value_tree, case_do_tree, for_step_tree, for_list_tree};
+ghost use Rattle.algolw_tree.specs.Wholes.{whole_tree};
 ghost use Rattle.algolw_typing.specs.Naming.{and, naming, kind_naming, phrases_naming, perhaps_naming, links_naming, lists_naming, actuals_naming, items_naming, bounds_naming, decls_naming, decl_naming};
 ghost use Rattle.block_scopes.specs.Adding.{Adds, frame_view};
 ghost use Rattle.block_scopes.specs.Parts.{listing_naming, actual_naming, item_naming};
@@ -10,15 +11,27 @@ use crate::blocks::{block_scope, formal_scope};
 use crate::frame::Frame;
 use crate::resolver::Resolver;
 use algolw_tree::{
-    Actual, Applied, Assignment, Block, Bound, CaseDo, CaseValue, Chain, Conditional, Decl,
-    ForList, ForStep, Item, Kind, Link, List, ListKind, Part, Phrase, ProcDecl, Relation,
-    Repetition,
+    Actual, Applied, Assignment, Bound, CaseDo, CaseValue, Chain, Conditional, Decl, ForList,
+    ForStep, Item, Kind, Link, List, ListKind, Part, Phrase, ProcDecl, Relation, Repetition, Whole,
 };
 use name_scopes::ScopePath;
 use std::alloc::AllocError;
 use value_ops::Place;
 
 impl Resolver<'_> {
+    /// Resolves a whole program.
+    pub fn whole<'t>(
+        &mut self,
+        frame: Frame,
+        path: &ScopePath<'_, 't>,
+        root: Whole<'t>,
+    ) -> Result<(), AllocError>
+        ensures { OnOk result (Adds self.old self.new
+            (naming (frame_view frame) path.now (whole_tree root.entry))) }
+    {
+        self.block(frame, path, root.decls, root.items)
+    }
+
     /// Resolves a phrase.
     #[cycle(phrases)]
     pub fn phrase<'t>(
@@ -56,7 +69,7 @@ impl Resolver<'_> {
             Kind::ForList(turns) => self.for_list(frame, path, place, turns),
             Kind::WhileDo(repetition) => self.repetition(frame, path, repetition),
             Kind::Assert(condition) => self.phrase(frame, path, condition),
-            Kind::Block(block) => self.block(frame, path, block),
+            Kind::Block(block) => self.block(frame, path, &block.decls, &block.items),
         }
     }
 
@@ -456,16 +469,18 @@ impl Resolver<'_> {
         &mut self,
         frame: Frame,
         path: &ScopePath<'_, 't>,
-        block: &'t Block,
+        decls: &'t [Decl],
+        items: &'t [Item],
     ) -> Result<(), AllocError>
         ensures { (place : Place) → OnOk result (Adds self.old self.new
-            (kind_naming (frame_view frame) path.now place (block_tree block.now))) }
+            (kind_naming (frame_view frame) path.now place
+            (T.Block (decls_of (map decl_tree decls.now)) (items_of (map item_tree items.now))))) }
     {
-        let scope = block_scope(self.alloc, &block.decls, &block.items)?;
+        let scope = block_scope(self.alloc, decls, items)?;
         let inner = self.declares(frame, &scope)?;
         let own = ScopePath::inner(&scope, &*path);
-        self.decls(inner, &*path, &own, &block.decls)?;
-        self.items(inner, &own, &block.items)?;
+        self.decls(inner, &*path, &own, decls)?;
+        self.items(inner, &own, items)?;
         Ok(())
     }
 

@@ -1,5 +1,5 @@
 ghost use Rattle.std.specs.Prelude.{IfOk};
-ghost use Rattle.algolw_tree.specs.View.{tree};
+ghost use Rattle.algolw_tree.specs.Wholes.{whole_tree};
 ghost use Rattle.block_scopes.specs.Resolution.{IsResolution};
 
 use crate::classes::FoundClass;
@@ -7,7 +7,7 @@ use crate::frame::Frame;
 use crate::order::{sort_classes, sort_names};
 use crate::resolver::Resolver;
 use crate::standard::add_standard;
-use algolw_tree::{NameInfo, Phrase, STANDARD};
+use algolw_tree::{NameInfo, STANDARD, Whole};
 use bumpalo::Bump;
 use name_scopes::ScopePath;
 use std::alloc::{AllocError, Global};
@@ -25,9 +25,9 @@ pub struct Scopes<'a> {
 pub fn resolve<'a>(
     alloc: Global,
     arena: &'a Bump,
-    phrase: &Phrase,
+    root: Whole<'_>,
 ) -> Result<Scopes<'a>, AllocError>
-    ensures { IfOk result (λ s. IsResolution (tree phrase.now) s.names.items s.classes.items) }
+    ensures { IfOk result (λ s. IsResolution (whole_tree root.entry) s.names.items s.classes.items) }
 {
     let mut resolver = Resolver::new(alloc, arena);
     add_standard(&mut resolver.names)?;
@@ -35,7 +35,7 @@ pub fn resolve<'a>(
         level: 0,
         slot: STANDARD.len() as u32,
     };
-    resolver.phrase(frame, &ScopePath::standard(), phrase)?;
+    resolver.whole(frame, &ScopePath::standard(), root)?;
     let Resolver {
         alloc: _,
         arena: _,

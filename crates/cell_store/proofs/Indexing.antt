@@ -108,6 +108,12 @@ further_all_is (d ∷ ds) more n h =
 
 -- ---- the cell of an element
 
+-- a dimension on of which nothing is given
+one_more : (d : Dimension) (ds : List Dimension) (i : ℤ) (more : List (Option ℤ)) (n m : ℕ) → d.given ≡ None → further d (Some i) n ≡ Some m → further_all (d ∷ ds) (Some i ∷ more) n ≡ further_all ds more m
+one_more d ds i more n m free on =
+    ap (λ o. elim (further d (chosen o (Some i ∷ more)) n) [ None ↦ None | Some k ↦ further_all ds (left_of o (Some i ∷ more)) k ]) free
+    ∙ ap (λ r. elim r [ None ↦ None | Some k ↦ further_all ds more k ]) on
+
 abbrev pub found : (first total : ℕ) → Option ℕ → Result (Option ℕ) Fault
 found first total None = Err SubscriptOutsideBounds
 found first total (Some n) = Ok (then_some (nat_lt n total) (first + n))
@@ -155,3 +161,34 @@ found_within first total n h = elim (cases_lt n total) [
   | inl below ↦ let is : nat_lt n total ≡ true = lt-ltb n total below in rw is (omega (arith, h, below))
   | inr past ↦ let is : nat_lt n total ≡ false = le-ltb n total past in rw is tt
 ]
+
+-- an element that an array has
+found_there : (a : Array) (subscripts : List ℤ) (total n cell : ℕ) → total ≡ elements a.dimensions → total ≤ 32768 → further_all a.dimensions (map (λ i. Some i) subscripts) 0 ≡ Some n → then_some (nat_lt n total) (a.first + n) ≡ Some cell → index_of a subscripts ≡ Ok (Some cell)
+found_there a subscripts total n cell counted h walked is = index_is a subscripts total counted h ∙ ap (found a.first total) walked ∙ ap (λ r. Ok r) is
+
+pub found_of_one : (a : Array) (d : Dimension) (i : ℤ) (total n cell : ℕ) → total ≡ elements a.dimensions → total ≤ 32768 → a.dimensions ≡ d ∷ [] → d.given ≡ None → further d (Some i) 0 ≡ Some n → then_some (nat_lt n total) (a.first + n) ≡ Some cell → index_of a (i ∷ []) ≡ Ok (Some cell)
+found_of_one a d i total n cell counted h are free on is = found_there a (i ∷ []) total n cell counted h (ap (λ ds. further_all ds (Some i ∷ []) 0) are ∙ one_more d [] i [] 0 n free on) is
+
+pub found_of_two : (a : Array) (d e : Dimension) (i j : ℤ) (total m n cell : ℕ) → total ≡ elements a.dimensions → total ≤ 32768 → a.dimensions ≡ d ∷ e ∷ [] → d.given ≡ None → e.given ≡ None → further d (Some i) 0 ≡ Some m → further e (Some j) m ≡ Some n → then_some (nat_lt n total) (a.first + n) ≡ Some cell → index_of a (i ∷ j ∷ []) ≡ Ok (Some cell)
+found_of_two a d e i j total m n cell counted h are free free' on on' is = found_there a (i ∷ j ∷ []) total n cell counted h (ap (λ ds. further_all ds (Some i ∷ Some j ∷ []) 0) are ∙ one_more d (e ∷ []) i (Some j ∷ []) 0 m free on ∙ one_more e [] j [] m n free' on') is
+
+-- ---- the same of one or two dimensions, found without a loop
+
+pub none_given : (o : Option ℤ) → is_some o ≡ false → o ≡ None
+none_given None e = refl
+none_given (Some i) e = absurd (cc e)
+
+pub one_only : (ds : List Dimension) (blank : Dimension) → 1 ≤ length ds → length ds < 2 → ds ≡ get_or ds 0 blank ∷ []
+one_only [] blank l m = absurd (omega (arith, l))
+one_only (d ∷ []) blank l m = refl
+one_only (d ∷ e ∷ ds) blank l m = absurd (omega (arith, m))
+
+pub two_only : (ds : List Dimension) (blank : Dimension) → 2 ≤ length ds → length ds < 3 → ds ≡ get_or ds 0 blank ∷ get_or ds 1 blank ∷ []
+two_only [] blank l m = absurd (omega (arith, l))
+two_only (d ∷ []) blank l m = absurd (omega (arith, l))
+two_only (d ∷ e ∷ []) blank l m = refl
+two_only (d ∷ e ∷ f ∷ ds) blank l m = absurd (omega (arith, m))
+
+pub if_there : (a : Array) (subscripts : List ℤ) (o r : Option ℕ) → ((cell : ℕ) → r ≡ Some cell → index_of a subscripts ≡ Ok (Some cell)) → o ≡ r → IfSome o (λ cell. index_of a subscripts ≡ Ok (Some cell))
+if_there a subscripts None r f e = tt
+if_there a subscripts (Some cell) r f e = f cell (sym e)

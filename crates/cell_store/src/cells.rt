@@ -172,13 +172,21 @@ impl Wide {
         ensures { self.new ≡ other.now }
     {
         match other {
-            Wide::Str(text) => self.set_text(text.as_slice()),
+            Wide::Str(text) => self.copy_text(text),
             Wide::Part(part) => self.set_part(part),
             Wide::Array(array) => self.set_array(array),
             Wide::Thunk(thunk) => self.set_thunk(thunk),
             Wide::Procedure(procedure) => self.set_procedure(procedure),
             Wide::Bounds(_) => self.copy_whole(other),
         }
+    }
+
+    /// It becomes a string. Out of line: what it takes would else be made ready for names, arrays and procedures too.
+    #[inline(never)]
+    fn copy_text(&mut self, text: &Text)
+        ensures { self.new ≡ Wide.Str text.now }
+    {
+        self.set_text(text.as_slice());
     }
 
     /// It becomes the same as another, copied with all its room.

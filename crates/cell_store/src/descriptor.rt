@@ -1,4 +1,4 @@
-ghost use Rattle.std.specs.Prelude.{◌≡◌, ◌≤◌, ◌<◌, ◌+◌, ℕ, List, length, map, min, IfOk, IfSome, slice_get};
+ghost use Rattle.std.specs.Prelude.{◌≡◌, ◌≤◌, ◌<◌, ◌+◌, ◌∷◌, [], ℕ, List, length, map, min, Ok, Some, IfOk, IfSome, slice_get};
 ghost use Rattle.std.specs.Option.{option_or};
 ghost use Rattle.cell_store.specs.Arrays.{dimension, elements, extent, index_of, subarray_of, is_within};
 ghost use Rattle.cell_store.specs.Held.{further};
@@ -101,6 +101,53 @@ impl Descriptor {
             offset = further;
         }
         Ok((offset < self.total).then_some(self.first + offset))
+    }
+
+    /// The same where the array has one or two dimensions and none of its subscripts are given, found without a loop; none too
+    /// where it takes more than that.
+    #[inline(always)]
+    pub fn index_at_once(&self, subscripts: &[i32]) -> Option<u32>
+        ensures value { IfSome result (λ cell. index_of self.now subscripts.now ≡ Ok (Some cell)) }
+        ensures within { IfSome result (λ cell. cell < 32768) }
+    {
+        match subscripts {
+            [only] => self.index_of_one(*only),
+            [first, second] => self.index_of_two(*first, *second),
+            _ => None,
+        }
+    }
+
+    /// The cell of an element of an array of one dimension.
+    #[inline(always)]
+    fn index_of_one(&self, only: i32) -> Option<u32>
+        ensures value { IfSome result (λ cell. index_of self.now (only ∷ []) ≡ Ok (Some cell)) }
+        ensures within { IfSome result (λ cell. cell < 32768) }
+    {
+        let [dimension] = self.dimensions() else {
+            return None;
+        };
+        if dimension.given.is_some() {
+            return None;
+        }
+        let offset = dimension.further(Some(only), 0)?;
+        (offset < self.total).then_some(self.first + offset)
+    }
+
+    /// The cell of an element of an array of two dimensions.
+    #[inline(always)]
+    fn index_of_two(&self, first: i32, second: i32) -> Option<u32>
+        ensures value { IfSome result (λ cell. index_of self.now (first ∷ second ∷ []) ≡ Ok (Some cell)) }
+        ensures within { IfSome result (λ cell. cell < 32768) }
+    {
+        let [outer, inner] = self.dimensions() else {
+            return None;
+        };
+        if outer.given.is_some() || inner.given.is_some() {
+            return None;
+        }
+        let before = outer.further(Some(first), 0)?;
+        let offset = inner.further(Some(second), before)?;
+        (offset < self.total).then_some(self.first + offset)
     }
 
     /// The subarray of which these subscripts are given, where they are, of those that weren't. F3 exactly where one is

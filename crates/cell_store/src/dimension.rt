@@ -43,6 +43,7 @@ impl Dimension {
     }
 
     /// How many subscripts are within the bounds.
+    #[inline(always)]
     fn extent(self) -> u64
         ensures value { result ≡ extent self }
         ensures most { result ≤ 4294967296 }
@@ -83,6 +84,7 @@ impl Dimension {
 
     /// How many elements stand in front, with this dimension, of so many in front by those before it; 32,768 stands for
     /// more. None exactly where the subscript is outside the bounds.
+    #[inline(always)]
     pub(crate) fn further(self, subscript: Option<i32>, offset: u32) -> Option<u32>
         requires { offset ≤ 32768 }
         ensures { result ≡ further self subscript offset }
@@ -93,6 +95,7 @@ impl Dimension {
 }
 
 /// A number, for which 32,768 stands where it is more.
+#[inline(always)]
 fn capped(count: u64) -> u32
     ensures { result ≡ min count 32768 }
 {

@@ -1,4 +1,4 @@
-ghost use Rattle.std.specs.Prelude.{◌≡◌, ◌≤◌, ◌<◌, ◌+◌, ◌-◌, ℕ, [], ◌∷◌, ◌++◌, Some, None, Ok, Err, IfOk, IfSome, IsSome, OnOk, OnErr, length, take, max, true, false, is_some, nat_lt, nat_le, ◌&&◌, if◌then◌else◌, option_copied, slice_get, slice_set};
+ghost use Rattle.std.specs.Prelude.{◌≡◌, ◌≤◌, ◌<◌, ◌+◌, ◌-◌, ℕ, [], ◌∷◌, ◌++◌, Some, None, Ok, Err, IfOk, IfSome, IsSome, OnOk, OnErr, length, replicate, take, max, true, false, is_some, nat_lt, nat_le, ◌&&◌, if◌then◌else◌, option_copied, slice_get, slice_set};
 ghost use Rattle.std.specs.Option.{option_and_then};
 ghost use Rattle.cell_store.specs.Cells.{a_wide, word_in, wide_in, text_over, nothing};
 ghost use Rattle.cell_store.specs.Words.{word_of, is_wide};
@@ -199,6 +199,19 @@ impl Store {
             return Err(Limit::Storage);
         }
         self.cells.push_wide(held);
+        Ok(())
+    }
+
+    /// So many cells more, which hold nothing. L3 exactly where that would make more than 32,768 live cells.
+    pub fn push_empty(&mut self, count: u32) -> Result<(), Limit>
+        ensures answer { result ≡ cells_allowed count self.old }
+        ensures pushed { OnOk result (self.new ≡ with_cells (replicate count nothing) self.old) }
+        ensures unchanged { OnErr result (self.new ≡ self.old) }
+    {
+        if count > MOST_CELLS - self.cells.len() {
+            return Err(Limit::Storage);
+        }
+        self.cells.push_empty(count);
         Ok(())
     }
 

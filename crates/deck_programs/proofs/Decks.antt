@@ -11,7 +11,7 @@ use Rattle.deck_programs.proofs.Quotes.{empty_texts, tokens_filled, tree_filled}
 
 -- ---- the tokens that are kept
 
-kept_weight : (m : Measure) (e : Bool) (ts : List Token) → tokens_weight m (kept e ts) ≤ tokens_weight m ts
+pub kept_weight : (m : Measure) (e : Bool) (ts : List Token) → tokens_weight m (kept e ts) ≤ tokens_weight m ts
 kept_weight m e [] = omega arith
 kept_weight m e (t ∷ ts) = go (e && is_name t.kind) (kept_weight m false ts) (kept_weight m (is_end t.kind) ts)
   where

@@ -1,6 +1,6 @@
 -- Decks and jobs are never wrong.
 use Rattle.std.proofs.Common.{◌≡◌, ℕ, List, [], refl, sym, ◌∙◌, inl, inr}
-use Rattle.std.specs.Prelude.{◌⊎◌, None, false, true}
+use Rattle.std.specs.Prelude.{◌⊎◌, Option, false, true}
 use Rattle.deck_reader.specs.JobView.{JobView}
 use Rattle.algolw_tree.specs.Tree.{Phrase}
 use Rattle.algolw_typing.specs.Faults.{program_faults}
@@ -11,26 +11,26 @@ use Rattle.program_meaning.specs.Results.{ending_text}
 use Rattle.program_meaning.specs.Translating.{program_phrase}
 use Rattle.program_soundness.specs.Laws.{IsNeverWrong, NeverGoesWrong}
 use Rattle.faultless_programs.proofs.Programs.{programs_without_faults_are_never_wrong}
-use Rattle.algolw_meaning.specs.DeckDiagnostics.{Deck, IsProgram, IsWrong, NothingFound, HasProgram, IsFound, deck_of, diagnostics_found}
+use Rattle.algolw_meaning.specs.DeckDiagnostics.{Deck, IsProgram, IsWrong, NothingFound, IsJobFound, JobHasProgram, diagnostics_found, job_deck}
 use Rattle.algolw_meaning.specs.Laws.{IsResult, a_wrong_deck, a_faulty_program, a_run}
-use Rattle.algolw_meaning.specs.Meaning.{JobResult}
+use Rattle.algolw_meaning.specs.Meaning.{JobResult, job_library}
 use Rattle.algolw_meaning.specs.Running.{setting_of, program_outcome, job_result}
-use Rattle.deck_programs.specs.Laws.{DecksAreNeverWrong, JobsAreNeverWrong, TextsTellWrong, IsDiagnosed, IsRun, is_wrong_text}
-use Rattle.algolw_meaning.proofs.Found.{deck_found, diagnostics_are}
+use Rattle.deck_programs.specs.Laws.{DecksAreNeverWrong, JobsAreNeverWrong, TextsTellWrong, IsDiagnosed, IsRun, StandsBefore, is_wrong_text}
+use Rattle.algolw_meaning.proofs.Composing.{job_diagnostics_are, job_found}
 use Rattle.algolw_meaning.proofs.Results.{results_of_jobs}
-use Rattle.deck_programs.proofs.Decks.{trees_of_decks}
+use Rattle.deck_programs.proofs.Together.{trees_of_jobs}
 
--- a program that the tokens of a deck spell, without faults
-spelled_never_wrong : (deck : List (List ℕ)) (x : Phrase) → HasProgram deck x → program_faults x ≡ [] → (set : Setting) → NeverGoesWrong set (program_phrase (program_of x))
-spelled_never_wrong deck x (tokens, are, is) e set = programs_without_faults_are_never_wrong set x e (trees_of_decks deck tokens x None are is.spelled)
+-- a program that the tokens of a deck spell, with its library, without faults
+spelled_never_wrong : (library : Option (List (List ℕ))) (deck : List (List ℕ)) (x : Phrase) → StandsBefore library deck → JobHasProgram library deck x → program_faults x ≡ [] → (set : Setting) → NeverGoesWrong set (program_phrase (program_of x))
+spelled_never_wrong library deck x before h e set = programs_without_faults_are_never_wrong set x e (trees_of_jobs.trees library deck x before h)
 
-deck_case : (deck : List (List ℕ)) (d : Deck) → IsFound deck d → diagnostics_found d ≡ [] → (x : Phrase) × HasProgram deck x × ((set : Setting) → NeverGoesWrong set (program_phrase (program_of x)))
-deck_case deck (IsProgram x) h e = (x, h, spelled_never_wrong deck x h e)
-deck_case deck (IsWrong d) h e = absurd (cc e)
-deck_case deck NothingFound h e = absurd h
+deck_case : (library : Option (List (List ℕ))) (deck : List (List ℕ)) (d : Deck) → StandsBefore library deck → IsJobFound library deck d → diagnostics_found d ≡ [] → (x : Phrase) × JobHasProgram library deck x × ((set : Setting) → NeverGoesWrong set (program_phrase (program_of x)))
+deck_case library deck (IsProgram x) before h e = (x, h, spelled_never_wrong library deck x before h e)
+deck_case library deck (IsWrong d) before h e = absurd (cc e)
+deck_case library deck NothingFound before h e = absurd h
 
 pub decks_are_never_wrong : DecksAreNeverWrong
-decks_are_never_wrong deck e = deck_case deck (deck_of deck) (deck_found deck) (sym (diagnostics_are deck) ∙ e)
+decks_are_never_wrong library deck before e = deck_case library deck (job_deck library deck) before (job_found library deck) (sym (job_diagnostics_are library deck) ∙ e)
 
 -- ---- jobs
 
@@ -49,12 +49,12 @@ text_is_right o h = go (texts_tell_wrong o)
     go (inl x) = x.1
     go (inr x) = absurd (x.0 h)
 
-job_case : (job : JobView) (result : JobResult) → IsResult job result → IsDiagnosed job result ⊎ IsRun job result
-job_case job result (a_wrong_deck d h e) = inl (record { first = d; others = []; is = e })
-job_case job result (a_faulty_program x d faults h f e) = inl (record { first = d; others = faults; is = e })
-job_case job result (a_run x h n e) =
-    let w = (spelled_never_wrong job.deck x h n (setting_of job)).by_copying in
+job_case : (job : JobView) (result : JobResult) → StandsBefore (job_library job) job.deck → IsResult job result → IsDiagnosed job result ⊎ IsRun job result
+job_case job result before (a_wrong_deck d h e) = inl (record { first = d; others = []; is = e })
+job_case job result before (a_faulty_program x d faults h f e) = inl (record { first = d; others = faults; is = e })
+job_case job result before (a_run x h n e) =
+    let w = (spelled_never_wrong (job_library job) job.deck x before h n (setting_of job)).by_copying in
     inr (record { program = x; spelled = h; faultless = n; is = e; never_wrong = w; text = text_is_right (program_outcome job (program_of x)) w })
 
 pub jobs_are_never_wrong : JobsAreNeverWrong
-jobs_are_never_wrong job = job_case job (job_result job) (results_of_jobs job)
+jobs_are_never_wrong job before = job_case job (job_result job) before (results_of_jobs job)

@@ -4,6 +4,6 @@
 mod laws;
 
 pub use laws::{
-    decks_are_never_wrong, jobs_are_never_wrong, texts_tell_wrong, trees_of_decks,
-    trees_of_decks_are_placed,
+    batches_are_never_wrong, decks_are_never_wrong, jobs_are_never_wrong, jobs_stand_before,
+    texts_tell_wrong, trees_of_decks, trees_of_decks_are_placed, trees_of_jobs,
 };

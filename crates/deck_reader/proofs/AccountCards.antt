@@ -90,7 +90,7 @@ behind_blanks-text : (n : ℕ) (text more : List ℕ) → 0 < length text → La
 behind_blanks-text n [] more some lacks = absurd (omega arith)
 behind_blanks-text n (c ∷ cs) more some lacks = behind_blanks_is n c (cs ++ more) (lacks 0 0 some)
 
-behind_blanks-all : (n : ℕ) (text : List ℕ) → 0 < length text → Lacks 32 text → behind_blanks (blanks n ++ text) ≡ text
+pub behind_blanks-all : (n : ℕ) (text : List ℕ) → 0 < length text → Lacks 32 text → behind_blanks (blanks n ++ text) ≡ text
 behind_blanks-all n [] some lacks = absurd (omega arith)
 behind_blanks-all n (c ∷ cs) some lacks = behind_blanks_is n c cs (lacks 0 0 some)
 

@@ -7,9 +7,12 @@ pub mod Fields
 pub mod Settings
 pub mod JobCards
 pub mod AccountCards
+pub mod LibraryCards
+pub mod Named
 pub mod Openings
 pub mod Firsts
 pub mod Runs
+pub mod Shelving
 pub mod OpenJobs
 pub mod Arrivals
 pub mod Feeding

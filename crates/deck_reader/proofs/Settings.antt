@@ -5,6 +5,7 @@ use Rattle.std.proofs.lemmas.List.Elements.{All-append}
 use Rattle.std.proofs.lemmas.List.Folds.{list_all-map}
 use Rattle.std.proofs.lemmas.List.Sums.{fold-append}
 use Rattle.std.proofs.lemmas.Bool.Decides.{nat_tests}
+use Rattle.std.proofs.lemmas.Iterator.Adapters.{option_map_id}
 use Rattle.std.proofs.lemmas.Option.{same_Some}
 use Rattle.std.proofs.lemmas.Slice.Eq.{bytes_eq-Decides}
 use Rattle.std.specs.List.{list_all, find, fold, prefix_len, suffix_len, join_with_byte}
@@ -12,7 +13,7 @@ use Rattle.std.specs.Option.{option_map, option_and_then}
 use Rattle.std.specs.Str.{bytes_eq}
 use Rattle.std.specs.Str.Parse.{digits_value}
 use Rattle.deck_reader.specs.declared.options.JobOption.{JobOption}
-use Rattle.deck_reader.specs.declared.options.JobOption.TheVariants.{Steps, Lines}
+use Rattle.deck_reader.specs.declared.options.JobOption.TheVariants.{Steps, Lines, Library}
 use Rattle.deck_reader.specs.declared.options.Settings.{Settings}
 use Rattle.deck_reader.specs.Forms.{capital, folded, is_letter, is_digit, is_name, is_digits, parted, behind_blanks, stripped, name_of, number_of, in_32_bits}
 use Rattle.deck_reader.specs.Options.{Value, row, options, unset, option_of, once, with_option, with_parts, with_field, settings_of, counted_settings}
@@ -99,10 +100,12 @@ field_lacks t T bytes f other lacks =
 from_value_of : (option : JobOption) (text : List ℕ) (value : Value option) → (row option).value_of text ≡ Some value → (row option).Is value text
 from_value_of Steps = from_number_of
 from_value_of Lines = from_number_of
+from_value_of Library = from_name_of
 
 value_of_is : (option : JobOption) (text : List ℕ) (value : Value option) → (row option).Is value text → (row option).value_of text ≡ Some value
 value_of_is Steps = number_of_is
 value_of_is Lines = number_of_is
+value_of_is Library = name_of_is
 
 -- a text that lacks a byte where that is no letter and no digit, and that isn't empty
 record IsPlain (text : List ℕ) : Type 0 where
@@ -112,9 +115,16 @@ record IsPlain (text : List ℕ) : Type 0 where
 number_is_plain : (text : List ℕ) (n : ℕ) → IsNumber n text → IsPlain text
 number_is_plain text n is = record { lacks = λ t _ other. digits_lack t text other is.form; some = (from_is_digits text is.form).1 }
 
+name_is_plain : (text name : List ℕ) → IsName name text → IsPlain text
+name_is_plain text name is = record {
+  lacks = λ t letter digit. name_lacks t text (ap (λ (b : Bool). b || is_digit t) letter ∙ digit) is.form;
+  some = (from_is_name text is.form).1;
+}
+
 value_is_plain : (option : JobOption) (text : List ℕ) (value : Value option) → (row option).Is value text → IsPlain text
 value_is_plain Steps = number_is_plain
 value_is_plain Lines = number_is_plain
+value_is_plain Library = name_is_plain
 
 -- an option's word has capitals alone, and one or more
 record IsOptionWord (word : List ℕ) : Type 0 where
@@ -124,11 +134,13 @@ record IsOptionWord (word : List ℕ) : Type 0 where
 option_word : (option : JobOption) → IsOptionWord (row option).word
 option_word Steps = record { letters = refl; some = omega arith }
 option_word Lines = record { letters = refl; some = omega arith }
+option_word Library = record { letters = refl; some = omega arith }
 
 -- each option is found by its word
 is_found : (option : JobOption) → find (λ o. bytes_eq (row option).word (row o).word) options ≡ Some option
 is_found Steps = refl
 is_found Lines = refl
+is_found Library = refl
 
 -- a byte whose capital is a letter is one
 no_capital : (t : ℕ) → is_letter t ≡ false → is_letter (capital t) ≡ false
@@ -307,12 +319,16 @@ counted_once s with f held given same = counted-with_value s with f same (once h
 abbrev pub counted_value : (option : JobOption) → Value option → Value option
 counted_value Steps = in_32_bits
 counted_value Lines = in_32_bits
+counted_value Library = λ name. name
 
 -- to count what an option gives is to count the settings and the value
 counted-option : (s : Settings) (text : List ℕ) (option : JobOption)
     → option_map counted_settings (with_option s text option) ≡ option_map ((row option).with_value (counted_settings s)) (once ((row option).held (counted_settings s)) (option_map (counted_value option) ((row option).value_of text)))
 counted-option s text Steps = counted_once s (row Steps).with_value in_32_bits s.steps (number_of text) (λ n. refl)
 counted-option s text Lines = counted_once s (row Lines).with_value in_32_bits s.lines (number_of text) (λ n. refl)
+counted-option s text Library =
+    counted_once s (row Library).with_value (λ name. name) s.library (name_of text) (λ name. refl)
+    ∙ ap (λ (held : Option (List ℕ)). option_map ((row Library).with_value (counted_settings s)) (once held (option_map (λ name. name) (name_of text)))) (option_map_id s.library)
 
 -- what the code makes of a field that names this option
 pub counted_field : (option : JobOption) (self s : Settings) (field word text : List ℕ) (given : Option (Value option)) → self ≡ counted_settings s → parted 61 field ≡ Some (word, text) → option_of (stripped word) ≡ Some option

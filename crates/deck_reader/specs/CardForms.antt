@@ -1,7 +1,7 @@
 -- The forms of the cards, as a grammar: relations between a card and its parts.
 use Rattle.std.specs.Prelude.{◌≡◌, ◌≤◌, ◌↔◌, ℕ, List, [], ◌∷◌, ◌++◌, codes, Some, None}
 use Rattle.short_text.specs.Blanks.{blanks}
-use Rattle.deck_reader.specs.Forms.{account_card}
+use Rattle.deck_reader.specs.Forms.{account_card, library_card}
 use Rattle.deck_reader.specs.JobCards.{job_card}
 use Rattle.deck_reader.specs.Options.{Value, row, unset}
 use Rattle.deck_reader.specs.Texts.{IsWord, IsName, IsNumber, IsField}
@@ -49,6 +49,15 @@ pub record IsAccountCard (card : List ℕ) (account : AccountCard) : Type 0 wher
   pub balance_is : IsNumber account.balance digits
   pub fits : account.balance ≤ 999999999
 
+-- a library's first card is `%LIBRARY`, blanks and a name
+pub record IsLibraryCard (card name : List ℕ) : Type 0 where
+  pub word : List ℕ
+  pub before : ℕ
+  pub written : List ℕ
+  pub text : card ≡ word ++ 32 ∷ (blanks before ++ written)
+  pub word_is : IsWord (codes "%LIBRARY") word
+  pub name_is : IsName name written
+
 -- a job card states its parts, and no other card has such parts
 abbrev pub JobCardByParts : Type 0
 JobCardByParts = (card : List ℕ) (job : JobCard) → (job_card card ≡ Some job) ↔ IsJobCard card job
@@ -56,3 +65,7 @@ JobCardByParts = (card : List ℕ) (job : JobCard) → (job_card card ≡ Some j
 -- an account card states its parts, and no other card has such parts
 abbrev pub AccountCardByParts : Type 0
 AccountCardByParts = (card : List ℕ) (account : AccountCard) → (account_card card ≡ Some account) ↔ IsAccountCard card account
+
+-- a library's first card states its name, and no other card has such parts
+abbrev pub LibraryCardByParts : Type 0
+LibraryCardByParts = (card name : List ℕ) → (library_card card ≡ Some name) ↔ IsLibraryCard card name

@@ -61,6 +61,14 @@ is_data card = is_control (codes "%DATA") card
 abbrev pub is_end : List ℕ → Bool
 is_end card = is_control (codes "%EOJ") card
 
+-- a card that begins a library, where it has the form
+abbrev pub is_library : List ℕ → Bool
+is_library card = is_control (codes "%LIBRARY") card
+
+-- a control card of those before the first head
+abbrev pub is_control_card : List ℕ → Bool
+is_control_card card = is_account card || (is_head card || (is_data card || (is_end card || is_library card)))
+
 -- what stands before and behind the first of these bytes
 abbrev pub parted : ℕ → List ℕ → Option (List ℕ × List ℕ)
 parted byte bytes = option_map (λ at. (take at bytes, drop (at + 1) bytes)) (position (λ b. b == byte) bytes)
@@ -99,6 +107,10 @@ name_and_balance (Some (name, rest)) = account_with (name_of name) (balance_of (
 -- an account's name and opening balance: the control word, blanks, a name, blanks, digits
 abbrev pub account_card : List ℕ → Option AccountCard
 account_card card = if is_account card then name_and_balance (parted 32 (behind_blanks (drop 8 card))) else None
+
+-- the name of the library that a card begins: the control word, blanks and a name, with nothing behind it
+abbrev pub library_card : List ℕ → Option (List ℕ)
+library_card card = if is_library card then name_of (behind_blanks (drop 8 card)) else None
 
 -- a number that stops at the largest of 32 bits, as the code counts
 abbrev pub in_32_bits : ℕ → ℕ

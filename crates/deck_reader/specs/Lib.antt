@@ -7,6 +7,9 @@ pub mod JobCards
 pub mod CardForms
 pub mod CardFlaws
 pub mod Flaws
+pub mod LibraryView
+pub mod Named
+pub mod Shelves
 pub mod JobView
 pub mod Batch
 pub mod BatchLaws

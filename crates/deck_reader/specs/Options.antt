@@ -3,15 +3,16 @@ use Rattle.std.specs.Prelude.{ℕ, Bool, ◌&&◌, nat_le, List, [], ◌∷◌, 
 use Rattle.std.specs.List.{find, fold}
 use Rattle.std.specs.Option.{option_map, option_and_then}
 use Rattle.deck_reader.specs.declared.options.JobOption.{JobOption}
-use Rattle.deck_reader.specs.declared.options.JobOption.TheVariants.{Steps, Lines}
+use Rattle.deck_reader.specs.declared.options.JobOption.TheVariants.{Steps, Lines, Library}
 use Rattle.deck_reader.specs.declared.options.Settings.{Settings}
-use Rattle.deck_reader.specs.Forms.{folded, stripped, parted, number_of, in_32_bits}
-use Rattle.deck_reader.specs.Texts.{IsNumber}
+use Rattle.deck_reader.specs.Forms.{folded, stripped, parted, name_of, number_of, in_32_bits}
+use Rattle.deck_reader.specs.Texts.{IsName, IsNumber}
 
 -- what an option gives
 abbrev pub Value : JobOption → Type 0
 Value Steps = ℕ
 Value Lines = ℕ
+Value Library = List ℕ
 
 -- a row of the table: the option's word, how a text is read as its value, when a text is that value, and the field of the settings that it sets
 pub record Row (V : Type 0) : Type 1 where
@@ -25,14 +26,15 @@ pub record Row (V : Type 0) : Type 1 where
 abbrev pub row : (option : JobOption) → Row (Value option)
 row Steps = record { word = codes "STEPS"; value_of = number_of; Is = IsNumber; held = λ s. s.steps; with_value = λ s n. record s { steps = Some n } }
 row Lines = record { word = codes "LINES"; value_of = number_of; Is = IsNumber; held = λ s. s.lines; with_value = λ s n. record s { lines = Some n } }
+row Library = record { word = codes "LIB"; value_of = name_of; Is = IsName; held = λ s. s.library; with_value = λ s x. record s { library = Some x } }
 
 -- the options that there are
 abbrev pub options : List JobOption
-options = Steps ∷ Lines ∷ []
+options = Steps ∷ Lines ∷ Library ∷ []
 
 -- where no option is given
 abbrev pub unset : Settings
-unset = record { steps = None; lines = None }
+unset = record { steps = None; lines = None; library = None }
 
 -- the most steps of a job: 10,000 where its card gives none
 abbrev pub steps_of : Settings → ℕ
@@ -52,7 +54,7 @@ is_in_range settings = is_up_to 10000000 (steps_of settings) && is_up_to 500 (li
 
 -- the settings with numbers that stop at the largest of 32 bits
 abbrev pub counted_settings : Settings → Settings
-counted_settings settings = record { steps = option_map in_32_bits settings.steps; lines = option_map in_32_bits settings.lines }
+counted_settings settings = record { steps = option_map in_32_bits settings.steps; lines = option_map in_32_bits settings.lines; library = settings.library }
 
 -- the option that this word names, in either case of letters
 abbrev pub option_of : List ℕ → Option JobOption

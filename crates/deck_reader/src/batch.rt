@@ -1,5 +1,7 @@
+use crate::library::{self, Library};
 use crate::listed::Listed;
 use std::marker::Model;
+use std::sync::Arc;
 use value_ops::{Card, Name};
 
 /// Why a job is refused before its deck is looked at.
@@ -17,13 +19,17 @@ pub enum Flaw {
     TooManyCards,
     /// Flaw 6: its account isn't open.
     AccountUnknown,
+    /// Flaw 7: its library isn't kept.
+    LibraryUnknown,
+    /// Flaw 8: its library is ill formed.
+    LibraryIllFormed,
 }
 
 impl Flaw {
     ghost use Rattle.std.specs.Prelude.{◌≡◌};
     ghost use Rattle.deck_reader.specs.Flaws.{flaw_number, flaw_text};
 
-    /// Its number, 1 to 6.
+    /// Its number, 1 to 8.
     pub fn number(self) -> u8
         ensures { result ≡ flaw_number self }
     {
@@ -41,6 +47,8 @@ impl Flaw {
             Flaw::NumberOutOfRange => b"NUMBER OUT OF RANGE",
             Flaw::TooManyCards => b"OVER 2000 CARDS",
             Flaw::AccountUnknown => b"ACCOUNT UNKNOWN",
+            Flaw::LibraryUnknown => b"LIBRARY UNKNOWN",
+            Flaw::LibraryIllFormed => b"LIBRARY ILL FORMED",
         }
     }
 }
@@ -65,6 +73,8 @@ pub struct Job {
     pub account_name: Name,
     /// Its account's number in the batch, from 0, where that is open.
     pub account: Option<u32>,
+    /// Its library, where its card names one. A flawed job has none.
+    pub library: Option<Arc<Library>>,
     /// Its deck. A flawed job has none.
     pub deck: Listed<Card>,
     /// Its data cards. A flawed job has none.
@@ -82,6 +92,7 @@ pub struct Job {
 impl Model for Job {
     ghost use Rattle.deck_reader.specs.JobView.{JobView};
     ghost use Rattle.deck_reader.specs.CardFlaws.{is_long, is_foul};
+    ghost use Rattle.deck_reader.specs.Shelves.{held};
     ghost use Rattle.std.specs.Prelude.{ℕ, ◌≡◌, ◌≤◌, ◌<◌, ◌+◌, false, length, IfNone, IsSome};
     ghost use Rattle.std.specs.List.{list_any};
 
@@ -92,6 +103,7 @@ impl Model for Job {
       name = j.name;
       account_name = j.account_name;
       account = j.account;
+      library = held j.library;
       deck = j.deck;
       data_cards = j.data_cards;
       steps = j.steps;
@@ -121,6 +133,7 @@ impl PartialEq for Job {
             && self.name == other.name
             && self.account_name == other.account_name
             && self.account == other.account
+            && library::same(&self.library, &other.library)
             && self.deck == other.deck
             && self.data_cards == other.data_cards
             && self.steps == other.steps

@@ -1,7 +1,7 @@
 ghost use Rattle.std.specs.Prelude.{◌≡◌, ◌≤◌, ◌==◌, [], ◌∷◌, true, false, ◌||◌, length, drop, bytes_eq, MatchOption};
 ghost use Rattle.std.specs.List.{list_all, prefix_len};
 ghost use Rattle.std.specs.Option.{option_map};
-ghost use Rattle.deck_reader.specs.Forms.{is_letter, is_digit, is_name, folded, ends_a_word, is_control, is_head, is_data, is_end, is_allowed, behind_blanks, stripped, number_of, name_of, balance_of, account_card, in_32_bits};
+ghost use Rattle.deck_reader.specs.Forms.{is_letter, is_digit, is_name, folded, ends_a_word, is_control, is_head, is_data, is_end, is_control_card, is_allowed, behind_blanks, stripped, number_of, name_of, balance_of, account_card, library_card, in_32_bits};
 ghost use Rattle.deck_reader.specs.JobCards.{fields, job_card, counted};
 
 use crate::bytes::split_once;
@@ -20,6 +20,9 @@ const DATA: &[u8] = b"%DATA";
 
 /// The control word of the card that ends a job.
 const END: &[u8] = b"%EOJ";
+
+/// The control word of the card that begins a library.
+const LIBRARY: &[u8] = b"%LIBRARY";
 
 /// The most bytes of a name.
 const NAME_BYTES: usize = 8;
@@ -75,6 +78,17 @@ pub fn is_end(card: &[u8]) -> bool
     behind_word(card, END).is_some()
 }
 
+/// Whether the card is a control card of those before the first job.
+pub fn is_control_card(card: &[u8]) -> bool
+    ensures { result ≡ is_control_card card.now }
+{
+    behind_word(card, ACCOUNT).is_some()
+        || is_head(card)
+        || is_data(card)
+        || is_end(card)
+        || behind_word(card, LIBRARY).is_some()
+}
+
 /// What an account card states, where the card has the form of one.
 pub fn account_card(card: &[u8]) -> Option<AccountCard>
     ensures { result ≡ account_card card.now }
@@ -84,6 +98,13 @@ pub fn account_card(card: &[u8]) -> Option<AccountCard>
         balance: balance_of(behind_blanks(digits))?,
         name: name_of(name)?,
     })
+}
+
+/// The name of the library that a card begins, where the card has the form of one that does.
+pub fn library_card(card: &[u8]) -> Option<Name>
+    ensures { result ≡ library_card card.now }
+{
+    name_of(behind_blanks(behind_word(card, LIBRARY)?))
 }
 
 /// What a job card states, where the card has the form of one.

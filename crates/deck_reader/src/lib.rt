@@ -1,4 +1,4 @@
-// A batch of cards: its accounts and its jobs.
+// A batch of cards: its accounts, its libraries and its jobs.
 #![tactic(auto)]
 
 mod accounts;
@@ -7,8 +7,10 @@ mod bytes;
 mod cleaning;
 mod forms;
 mod laws;
+mod library;
 mod listed;
 mod open_job;
+mod open_library;
 mod options;
 mod queue;
 mod reader;
@@ -20,8 +22,9 @@ pub use bytes::split_once;
 pub use forms::name_of;
 pub use laws::{
     account_card_by_parts, accounts_stay, equal_jobs_are_same, job_card_by_parts, jobs_stay,
-    pieces_joined,
+    libraries_stay, library_card_by_parts, pieces_joined,
 };
+pub use library::{KeptLibrary, Library};
 pub use listed::Listed;
 pub use reader::{FeedError, Reader};
 pub use value_ops::{Card, Name};

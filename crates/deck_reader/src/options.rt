@@ -4,7 +4,8 @@ ghost use Rattle.deck_reader.specs.JobCards.{fields};
 ghost use Rattle.deck_reader.specs.Options.{unset, steps_of, lines_of, is_in_range, counted_settings, option_of, once, with_field, settings_of};
 
 use crate::bytes::split_once;
-use crate::forms::{is_word, number_of, stripped};
+use crate::forms::{is_word, name_of, number_of, stripped};
+use value_ops::Name;
 
 /// An option of a job card.
 #[derive(Clone, Copy)]
@@ -13,6 +14,8 @@ pub enum JobOption {
     Steps,
     /// The most lines of the job.
     Lines,
+    /// The name of the job's library.
+    Library,
 }
 
 /// What the options of a job card give. One is `None` where the card doesn't give it.
@@ -22,12 +25,15 @@ pub struct Settings {
     pub steps: Option<u32>,
     /// The most lines that the job may print.
     pub lines: Option<u32>,
+    /// The name of the job's library, in capitals.
+    pub library: Option<Name>,
 }
 
 /// The settings of a card that gives no option.
 pub const UNSET: Settings = Settings {
     steps: None,
     lines: None,
+    library: None,
 };
 
 /// The most steps of a job whose card gives none.
@@ -51,6 +57,8 @@ impl JobOption {
             Some(JobOption::Steps)
         } else if is_word(word, b"LINES") {
             Some(JobOption::Lines)
+        } else if is_word(word, b"LIB") {
+            Some(JobOption::Library)
         } else {
             None
         }
@@ -95,12 +103,16 @@ impl Settings {
                 lines: Some(once(self.lines, number_of(value))?),
                 ..self
             }),
+            JobOption::Library => Some(Settings {
+                library: Some(once(self.library, name_of(value))?),
+                ..self
+            }),
         }
     }
 }
 
 /// What is given, unless there is something by now.
-fn once(held: Option<u32>, given: Option<u32>) -> Option<u32>
+fn once<V: Drop>(held: Option<V>, given: Option<V>) -> Option<V>
     ensures { result ≡ once held given }
 {
     match held {

@@ -1,11 +1,12 @@
 ghost use Rattle.std.specs.Prelude.{◌≡◌, ◌≤◌, ◌+◌, ◌++◌, ◌∷◌, [], List, Option, ℕ, true, false, None, Some, IfOk, IfErr, IfNone, IfSome, OnOk, OnSome, IsErrOf, MatchOption, length};
 ghost use Rattle.deck_reader.specs.declared.batch.Account.{Account};
-ghost use Rattle.deck_reader.specs.Batch.{batch_with, ended_jobs, known_accounts, passes, too_large};
+ghost use Rattle.deck_reader.specs.Batch.{batch_with, ended_jobs, known_accounts, known_libraries, passes, too_large};
 ghost use Rattle.deck_reader.specs.JobView.{JobView};
 
 use crate::batch::{Account, Batch, Job};
 use crate::bytes::split_once;
 use crate::cleaning::clean_into;
+use crate::library::KeptLibrary;
 use crate::listed::Listed;
 use crate::reading::{Reading, Stage};
 use std::alloc::{AllocError, Global};
@@ -116,8 +117,19 @@ impl Reader {
         ensures few { IfSome result (λ a. length a.now ≤ 500) }
     {
         match self.reading.stage {
-            Stage::Front => None,
+            Stage::Front | Stage::Library(_) => None,
             _ => Some(self.reading.accounts.as_slice()),
+        }
+    }
+
+    /// The libraries, once a card has begun a job: no later byte changes them.
+    pub fn libraries(&self) -> Option<&[KeptLibrary]>
+        ensures { (given : Option (List Account)) (taken : List JobView) (input : List ℕ) → StandsFor given self.now taken input →
+            MatchOption result (known_libraries input ≡ None) (λ l. known_libraries input ≡ Some l.now) }
+    {
+        match self.reading.stage {
+            Stage::Front | Stage::Library(_) => None,
+            _ => Some(self.reading.shelf.as_slice()),
         }
     }
 

@@ -2,7 +2,7 @@
 ghost use Rattle.std.specs.Prelude.{◌≤◌, IfOk, length};
 
 use deck_reader::{Batch, FeedError, Job, Reader};
-use job_runner::{Desk, Ended, run_job};
+use job_runner::{Desk, Ended, Shelf, run_job};
 use std::alloc::{AllocError, Global};
 use std::sync::Arc;
 
@@ -30,6 +30,6 @@ pub(crate) fn result_of(alloc: Global, job: &Arc<Job>) -> Result<Option<Ended>, 
         return Ok(None);
     }
     let mut desk = Desk::new(alloc)?;
-    let ended = run_job(alloc, &mut desk, job)?;
+    let ended = run_job(alloc, &mut desk, &mut Shelf::new(alloc), job)?;
     Ok(Some(ended))
 }

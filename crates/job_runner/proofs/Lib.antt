@@ -1,3 +1,4 @@
+pub mod Blocks
 pub mod Noted
 pub mod Firsts
 pub mod Printed

@@ -1,9 +1,11 @@
 -- What a job gives that is run by the code of its deck.
 use Rattle.std.proofs.Common.{◌≡◌, ◌≤◌, ℕ, List, [], ◌∷◌, ◌++◌, length, take, refl, sym, ap, ◌∙◌, subst, arith}
-use Rattle.std.specs.Prelude.{codes}
+use Rattle.std.specs.Prelude.{codes, Option, Some, None}
+use Rattle.std.specs.Option.{option_map}
 use Rattle.value_ops.specs.declared.places.Place.{Place}
 use Rattle.output_editing.specs.Layout.{Piece, lay}
 use Rattle.deck_reader.specs.JobView.{JobView}
+use Rattle.deck_reader.specs.LibraryView.{LibraryView}
 use Rattle.account_book.specs.declared.charges.Counts.{Counts}
 use Rattle.algolw_typing.specs.Programs.{TypedProgram, program_of}
 use Rattle.program_meaning.specs.Laws.{KeepsItsLimits}
@@ -22,13 +24,15 @@ use Rattle.joined_rows.specs.declared.outcome.Outcome as machine
 use Rattle.joined_rows.specs.declared.outcome.Outcome.TheVariants as outcome
 use Rattle.joined_rows.specs.Runs.{IsOutcome}
 use Rattle.stack_machine.specs.Runs.{ComesTo, Shown}
-use Rattle.algolw_meaning.specs.DeckDiagnostics.{Deck, IsProgram, deck_of}
-use Rattle.algolw_meaning.specs.Meaning.{JobResult, counts_of}
+use Rattle.algolw_meaning.specs.DeckDiagnostics.{Deck, IsProgram, job_deck}
+use Rattle.algolw_meaning.specs.Meaning.{JobResult, counts_of, job_library}
 use Rattle.algolw_meaning.specs.Running.{counted_lines, job_result, lines, program_outcome, setting_of}
 use Rattle.algolw_meaning.specs.Texts.{sum_line}
 use Rattle.algolw_meaning.specs.declared.ending.Ending.{Ending}
-use Rattle.algolw_meaning.proofs.Found.{decks_are_read}
+use Rattle.algolw_meaning.proofs.Composing.{job_only}
 use Rattle.algolw_meaning.proofs.Results.{run_is}
+use Rattle.algolw_scanner.specs.Laws.{IsDeck}
+use Rattle.deck_programs.specs.Laws.{StandsBefore}
 use Rattle.program_runs.specs.Laws.{HasRightCode, RunsAsItMeans, Shows}
 use Rattle.program_runs.specs.Shown as table_shown
 use Rattle.program_runs.proofs.Decks.{shown_result, spelled_is_right}
@@ -44,7 +48,7 @@ begun_in job (IsProgram x) = (state_of (program_outcome job (program_of x))).beg
 begun_in job deck = []
 
 abbrev pub begun_of : JobView → List Place
-begun_of job = begun_in job (deck_of job.deck)
+begun_of job = begun_in job (job_deck (job_library job) job.deck)
 
 -- what a run is given
 pub setting_is : (job : JobView) (steps lines : ℕ) (cards : List (List ℕ)) → steps ≡ job.steps → lines ≡ job.lines → cards ≡ job.data_cards → ◌≡◌ {A = Setting} (record { steps = steps; lines = lines; cards = cards }) (setting_of job)
@@ -98,7 +102,15 @@ module _ (c : CodeView) where
 
 -- ---- a job that is run
 
-module _ (job : JobView) (c : CodeView) (is : IsCodeOf job.deck c) where
+-- it stands before its library, where it names one
+stands_by : (library : Option LibraryView) (deck : List (List ℕ)) → IsDeck deck → length deck ≤ 1999 → StandsBefore (option_map (λ l. l.cards) library) deck
+stands_by None deck is few = tt
+stands_by (Some l) deck is few = (is, few)
+
+pub stands : (job : JobView) → IsDeck job.deck → length job.deck ≤ 1999 → StandsBefore (job_library job) job.deck
+stands job is few = stands_by job.library job.deck is few
+
+module _ (job : JobView) (c : CodeView) (is : IsCodeOf (job_library job) job.deck c) (before : StandsBefore (job_library job) job.deck) where
   abbrev program : TypedProgram
   program = program_of is.program
 
@@ -107,10 +119,10 @@ module _ (job : JobView) (c : CodeView) (is : IsCodeOf job.deck c) where
 
   -- what it begins
   pub begun_is : (state_of means).begun ≡ begun_of job
-  begun_is = ap (begun_in job) (decks_are_read.only job.deck (IsProgram is.program) is.spelled)
+  begun_is = ap (begun_in job) (job_only (job_library job) job.deck (IsProgram is.program) is.spelled)
 
   right : HasRightCode (program_phrase program)
-  right = spelled_is_right job.deck is.program is.spelled is.faultless
+  right = spelled_is_right (job_library job) job.deck is.program before is.spelled is.faultless
 
   -- its code always ends
   pub code_ends : AlwaysEnds (code_view c)

@@ -1,17 +1,19 @@
 ghost use Rattle.std.specs.Prelude.{◌≡◌, ◌≢◌, ◌≤◌, [], None, IfOk, length};
 ghost use Rattle.account_book.specs.Charges.{charge, reserve};
+ghost use Rattle.algolw_scanner.specs.Laws.{IsDeck};
 ghost use Rattle.stack_code.specs.CodeView.{code_view};
 ghost use Rattle.stack_code.specs.Ending.{AlwaysEnds};
 ghost use Rattle.stack_machine.specs.Desks.{IsPrepared, shown_by};
 ghost use Rattle.stack_machine.specs.Runs.{ComesTo};
-ghost use Rattle.algolw_meaning.specs.Meaning.{shown_diagnostics};
+ghost use Rattle.algolw_meaning.specs.Meaning.{job_library, shown_diagnostics};
 ghost use Rattle.algolw_meaning.specs.Running.{setting_of};
 ghost use Rattle.algolw_meaning.specs.declared.ending.Ending.TheVariants as how;
 ghost use Rattle.job_runner.specs.Compiled.{IsCodeOf};
 ghost use Rattle.job_runner.specs.Shown.{ShowsRun};
 
-use crate::deck::{Compiled, compile_deck};
+use crate::deck::{Compiled, compile_job};
 use crate::section::{diagnosed_section, ending_of, run_section, used};
+use crate::shelf::Shelf;
 use account_book::Counts;
 use algolw_meaning::{Ended, Ending};
 use deck_reader::Job;
@@ -23,15 +25,21 @@ use value_ops::Diagnostic;
 
 /// Runs a job without a flaw at a desk, whatever that ran before. The desk then shows the job's steps and, where the job
 /// isn't diagnosed, how often each statement was begun, the lines that were printed, and the dump. The job's charge is at
-/// most its reserve. Where memory is wanting, the desk may be used again.
-pub fn run_job(alloc: Global, desk: &mut Desk, job: &Arc<Job>) -> Result<Ended, AllocError>
+/// most its reserve. The library that the job names is prepared where it doesn't stand on the shelf yet, and stands there
+/// then. Where memory is wanting, the desk and the shelf may be used again.
+pub fn run_job(
+    alloc: Global,
+    desk: &mut Desk,
+    shelf: &mut Shelf,
+    job: &Arc<Job>,
+) -> Result<Ended, AllocError>
     requires { job.now.value.flaw ≡ None }
     ensures same { IfOk result (λ e. e.job ≡ job.now.value) }
     ensures within { IfOk result (λ e. charge e.counts ≤ reserve e.job) }
     ensures steps { IfOk result (λ e. (shown_by desk.new).steps ≡ e.counts.steps) }
     ensures shown { IfOk result (λ e. e.ending ≢ how.Diagnosed → ShowsRun e.job (shown_by desk.new)) }
 {
-    match compile_deck(alloc, job.deck.as_slice())? {
+    match compile_job(alloc, shelf, &job.library, job.deck.as_slice())? {
         Compiled::Code(code) => run_code(alloc, desk, job, &code),
         Compiled::Diagnosed(faults) => diagnose(alloc, desk, job, faults.as_slice()),
     }
@@ -44,9 +52,10 @@ fn run_code(
     job: &Arc<Job>,
     code: &Code,
 ) -> Result<Ended, AllocError>
-    requires cards { length job.now.value.deck ≤ 2000 }
+    requires deck { IsDeck job.now.value.deck }
+    requires few { length job.now.value.deck ≤ 1999 }
     requires most { job.now.value.steps ≤ 10000000 }
-    requires code { IsCodeOf job.now.value.deck code.now }
+    requires code { IsCodeOf (job_library job.now.value) job.now.value.deck code.now }
     ensures same { IfOk result (λ e. e.job ≡ job.now.value) }
     ensures within { IfOk result (λ e. charge e.counts ≤ reserve e.job) }
     ensures steps { IfOk result (λ e. (shown_by desk.new).steps ≡ e.counts.steps) }
@@ -81,7 +90,7 @@ fn diagnose(
 ) -> Result<Ended, AllocError>
     requires cards { length job.now.value.deck ≤ 2000 }
     requires some { faults.now ≢ [] }
-    requires shown { faults.now ≡ shown_diagnostics job.now.value.deck }
+    requires shown { faults.now ≡ shown_diagnostics (job_library job.now.value) job.now.value.deck }
     ensures same { IfOk result (λ e. e.job ≡ job.now.value) }
     ensures steps { IfOk result (λ e. (shown_by desk.new).steps ≡ e.counts.steps) }
     ensures diagnosed { IfOk result (λ e. e.ending ≡ how.Diagnosed) }

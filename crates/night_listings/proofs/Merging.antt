@@ -1,18 +1,10 @@
 -- A night's sections, put together from those of its parts.
-use Rattle.std.proofs.Common.{◌≡◌, ℕ, ◌+◌, ◌==◌, ◌||◌, ◌&&◌, Bool, true, false, cond, List, [], ◌∷◌, ◌++◌, Option, Some, None, is_some, map, refl, sym, ap, ◌∙◌, append_assoc, append-nil, arith, length, nat_lt}
-use Rattle.std.specs.List.{list_all, list_any}
+use Rattle.std.proofs.Common.{◌≡◌, ℕ, ◌==◌, ◌||◌, ◌&&◌, Bool, true, false, cond, List, [], ◌∷◌, ◌++◌, Option, Some, None, is_some, map, refl, sym, ap, ◌∙◌, append_assoc, append-nil, arith}
+use Rattle.std.specs.List.{list_all}
 use Rattle.std.proofs.lemmas.Bool.Decides.{nat_tests}
-use Rattle.deck_reader.specs.declared.batch.Account.{Account}
 use Rattle.deck_reader.specs.declared.batch.Flaw.{Flaw}
 use Rattle.deck_reader.specs.JobView.{JobView}
 use Rattle.deck_reader.specs.Cards.{cards}
-use Rattle.deck_reader.specs.CardFlaws.{is_foul, is_long}
-use Rattle.deck_reader.specs.JobCards.{job_card}
-use Rattle.deck_reader.specs.Options.{is_in_range, unset}
-use Rattle.deck_reader.specs.declared.batch.Flaw.TheVariants as flaws
-use Rattle.deck_reader.specs.declared.forms.JobCard.{JobCard}
-use Rattle.deck_reader.specs.Batch.{Run, account_for, flawed, job_from, job_on, jobs_of, runs}
-use Rattle.deck_reader.specs.Batch.{body as run_body}
 use Rattle.account_book.specs.BookView.{openings_of}
 use Rattle.account_book.specs.Charges.{reserve}
 use Rattle.account_book.specs.Places.{place_balance}
@@ -20,6 +12,7 @@ use Rattle.algolw_meaning.specs.Charging.{charged}
 use Rattle.batch_listing.specs.Listing.{body, closing_lines, section, sections, verdict_by}
 use Rattle.batch_listing.specs.Texts.{heading, closing}
 use Rattle.account_shares.specs.Shares.{sections_after}
+use Rattle.account_shares.proofs.Cut.{flaws_or_accounts}
 use Rattle.account_shares.proofs.Nights.{sections_part}
 use Rattle.night_listings.specs.Laws.{NightMerged, WindowMerged}
 use Rattle.night_listings.specs.Nights.{behind_number, first_of, flaw_body, in_chain, jobs_of_windows, left_behind, merged, merged_windows, names, night, numbered, others_of, rests_in, taken}
@@ -133,35 +126,13 @@ windows_merged chain openings earlier (window ∷ windows) all =
     ∙ ap (λ (xs : List ℕ). sections_after openings earlier window ++ xs) (windows_merged chain openings (earlier ++ window) windows (all_behind can_stand window (jobs_of_windows windows) all))
     ∙ sym (sections_after-append openings earlier window (jobs_of_windows windows))
 
--- ---- each job of a night has a flaw or an account
-
-read_either : (ranged many : Bool) (number count : ℕ) (c : JobCard) (payer : Option ℕ) (deck data_cards : List (List ℕ))
-    → can_stand (cond ranged (cond many (flawed number count c payer c.settings flaws.TooManyCards) (job_on number count c payer deck data_cards)) (flawed number count c payer unset flaws.NumberOutOfRange)) ≡ true
-read_either false many number count c payer deck data_cards = refl
-read_either true true number count c payer deck data_cards = refl
-read_either true false number count c None deck data_cards = refl
-read_either true false number count c (Some p) deck data_cards = refl
-
-either : (long foul : Bool) (number count : ℕ) (card : Option JobCard) (payer : Option ℕ) (deck data_cards : List (List ℕ)) → can_stand (job_from number count long foul card payer deck data_cards) ≡ true
-either true foul number count card payer deck data_cards = refl
-either false true number count card payer deck data_cards = refl
-either false false number count None payer deck data_cards = refl
-either false false number count (Some c) payer deck data_cards = read_either (is_in_range c.settings) (nat_lt 2000 count) number count c payer deck data_cards
-
-each_stands : (accounts : List Account) (number : ℕ) (rs : List Run) → list_all can_stand (jobs_of accounts number rs) ≡ true
-each_stands accounts number [] = refl
-each_stands accounts number (run ∷ rs) =
-    ap (λ (b : Bool). b && list_all can_stand (jobs_of accounts (number + 1) rs))
-    (either (list_any is_long (run.head ∷ run_body run)) (list_any is_foul (run.head ∷ run_body run)) number (length (run_body run) + 1) (job_card run.head) (account_for accounts (job_card run.head)) _ _)
-    ∙ each_stands accounts (number + 1) rs
-
 -- ---- the night
 
 pub night_merged : NightMerged
 night_merged chain accounts bytes windows are =
     let openings = openings_of accounts in
     let jobs = jobs_of_windows windows in
-    let all : list_all can_stand (jobs_of_windows windows) ≡ true = ap (list_all can_stand) (sym are) ∙ each_stands accounts 1 (runs (cards bytes)) in
+    let all : list_all can_stand (jobs_of_windows windows) ≡ true = ap (list_all can_stand) (sym are) ∙ flaws_or_accounts (Some accounts) (cards bytes) in
     let shown : sections (openings_of accounts) (jobs_of_windows windows) ≡ merged_windows chain (openings_of accounts) [] windows =
     sections_part (openings_of accounts) [] (jobs_of_windows windows) ∙ sym (windows_merged chain (openings_of accounts) [] windows all) in
     ap (λ (js : List JobView). heading ++ sections (openings_of accounts) js ++ closing (closing_lines (openings_of accounts) js accounts) (night accounts bytes).stray) are

@@ -3,16 +3,18 @@ ghost use Rattle.std.specs.Option.{option_map};
 ghost use Rattle.algolw_tree.specs.Grammar.{links_of, phrases_of};
 ghost use Rattle.algolw_tree.specs.Tree as kinds;
 ghost use Rattle.algolw_tree.specs.View.{assignment_tree, link_tree, optional_tree, part_tree, relation_tree, repetition_tree, tree};
+ghost use Rattle.algolw_tree.specs.Wholes.{whole_tree};
 ghost use Rattle.algolw_typing.specs.Scopes as scopes;
 ghost use Rattle.algolw_typing.specs.Typing.{typed_kind, typed_links, typed_phrase, typed_phrases};
 ghost use Rattle.algolw_typing.specs.Types.{Simple, Str};
 ghost use Rattle.algolw_typing.specs.Verdicts.{Good, fault_of};
 ghost use Rattle.typing_rules.specs.View as view;
+ghost use Rattle.typed_findings.specs.Findings.{own_finding};
 ghost use Rattle.typed_phrases.specs.FoundParts.{all_view, given_view};
 ghost use Rattle.typed_phrases.specs.Prefixes as prefixes;
 ghost use Rattle.phrase_checker.specs.Checked.{Adds, AssignmentChecked, CasesChecked, Checked, LinksChecked, Noted, PairChecked, PhrasesChecked, RangeChecked, StepChecked, ValueChecked, found_itself};
 
-use algolw_tree::{Assignment, Kind, Link, Part, Phrase, Relation, Repetition, Spelling};
+use algolw_tree::{Assignment, Kind, Link, Part, Phrase, Relation, Repetition, Spelling, Whole};
 use bumpalo::Bump;
 use declared_names::{KnownPath, class_fault};
 use std::alloc::{AllocError, Global};
@@ -54,6 +56,15 @@ impl<'a> Checker<'a> {
         Ok(())
     }
 
+    /// Adds what is found by its verdict of a phrase that isn't empty and begins here: its fault, and what it gives.
+    fn found(&mut self, first: Place, verdict: Verdict<'a>) -> Result<(), AllocError>
+        ensures { OnOk result (Adds self.old.log self.new.log (fault_of (view.verdict verdict.entry))
+            (own_finding first (view.verdict verdict.entry) ∷ [])) }
+    {
+        self.note(verdict)?;
+        self.log.add(Finding::of_phrase(first, verdict))
+    }
+
     /// Adds what is found of a phrase itself by its verdict: its fault, and what it gives, which isn't said of an empty one.
     pub(crate) fn conclude(
         &mut self,
@@ -63,11 +74,24 @@ impl<'a> Checker<'a> {
         ensures { OnOk result (Adds self.old.log self.new.log (fault_of (view.verdict verdict.entry))
             (found_itself (tree phrase.now) (view.verdict verdict.entry))) }
     {
-        self.note(verdict)?;
         match phrase.kind {
-            Kind::Empty => Ok(()),
-            _ => self.log.add(Finding::of_phrase(phrase.first, verdict)),
+            Kind::Empty => self.note(verdict),
+            _ => self.found(phrase.first, verdict),
         }
+    }
+
+    /// Checks a whole program.
+    pub(crate) fn root<'t>(
+        &mut self,
+        path: &KnownPath<'_, 't, 'a>,
+        root: Whole<'t>,
+    ) -> Result<Verdict<'a>, AllocError>
+        ensures { IfOk result (λ v. Noted self.old.log self.new.log (view.verdict v)
+            (typed_phrase path.now (whole_tree root.entry))) }
+    {
+        let verdict = self.block(path, root.decls, root.items)?;
+        self.found(root.first, verdict)?;
+        Ok(verdict)
     }
 
     /// Checks a phrase.

@@ -1,5 +1,4 @@
 pub mod Making
-pub mod PlacePositions
 pub mod SetMaking
 pub mod SidesAlike
 pub mod ProgramRows

@@ -1,4 +1,3 @@
-pub mod Held
 pub mod HoldsClasses
 pub mod Makes
 pub mod Numbered

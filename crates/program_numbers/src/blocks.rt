@@ -1,40 +1,67 @@
 ghost use Rattle.std.specs.Prelude.{IfOk, map};
 ghost use Rattle.algolw_tree.specs.Grammar.{bounds_of, decls_of, items_of};
-ghost use Rattle.algolw_tree.specs.View.{block_tree, bound_tree, decl_tree, item_tree, labelled_tree, procedure_tree};
+ghost use Rattle.algolw_tree.specs.Tree as kinds;
+ghost use Rattle.algolw_tree.specs.View.{bound_tree, decl_tree, item_tree, labelled_tree, procedure_tree};
+ghost use Rattle.algolw_tree.specs.Wholes.{whole_tree};
 ghost use Rattle.algolw_typing.specs.ProgramView as program;
 ghost use Rattle.algolw_typing.specs.Typed as typed;
 ghost use Rattle.program_numbers.specs.Makes.{MakesTaken};
-ghost use Rattle.program_numbers.specs.Numbered.{BoundsNumbered, DeclNumbered, DeclsNumbered, ItemNumbered, ItemsNumbered, KindNumbered};
+ghost use Rattle.program_numbers.specs.Numbered.{BoundsNumbered, DeclNumbered, DeclsNumbered, ItemNumbered, ItemsNumbered, KindNumbered, NodeNumbered};
 ghost use Rattle.program_numbers.specs.Onto.{bounds_onto, decls_onto, items_onto};
 ghost use Rattle.program_numbers.specs.ProgramParts.{bound_in};
-ghost use Rattle.program_numbers.specs.Taken.{bounds_taken, decl_taken, decls_taken, item_taken, items_taken, taken_anywhere};
+ghost use Rattle.program_numbers.specs.Taken.{bounds_taken, decl_taken, decls_taken, item_taken, items_taken, node_taken, taken_anywhere};
 
 use crate::numbering::Numbering;
 use crate::table_builder::TableBuilder;
 use algolw_tree::{
-    Block, Bound, Decl, Item, Labelled, NodeKind, ProcDecl, TypedBound, TypedDecl, TypedItem,
-    TypedLabelled, TypedProc,
+    Bound, Decl, Item, Labelled, Node, NodeKind, ProcDecl, TypedBound, TypedDecl, TypedItem,
+    TypedLabelled, TypedProc, Whole,
 };
 use std::alloc::AllocError;
 use typed_findings::Untaken;
 
 /// Blocks, their declarations and their items.
 impl Numbering {
+    /// A whole program.
+    pub fn root(
+        &self,
+        table: &mut TableBuilder,
+        root: Whole<'_>,
+        found: &mut Untaken,
+    ) -> Result<Node, AllocError>
+        requires { NodeNumbered self.now (node_taken (whole_tree root) found.old).0 }
+        ensures { IfOk result (λ made. MakesTaken self.now table.old table.new (λ ns. program.node_view ns made)
+            found.new (node_taken (whole_tree root.entry) found.old)) }
+    {
+        let kind = self.block(table, root.decls, root.items, found)?;
+        let own = found.take();
+        let gives = self.gives(table, own.phrase_type())?;
+        let statement = self.statement(own);
+        Ok(Node {
+            place: root.place,
+            first: root.first,
+            kind,
+            gives,
+            statement,
+        })
+    }
+
     /// A block.
     #[cycle(nodes)]
     pub fn block(
         &self,
         table: &mut TableBuilder,
-        block: &Block,
+        decls: &[Decl],
+        items: &[Item],
         found: &mut Untaken,
     ) -> Result<NodeKind, AllocError>
-        requires { KindNumbered self.now (taken_anywhere (block_tree block.now) found.old).0 }
+        requires { KindNumbered self.now (taken_anywhere (kinds.Block (decls_of (map decl_tree decls.now)) (items_of (map item_tree items.now))) found.old).0 }
         ensures { IfOk result (λ made. MakesTaken self.now table.old table.new
             (λ ns. program.kind_view ns made)
-            found.new (taken_anywhere (block_tree block.now) found.old)) }
+            found.new (taken_anywhere (kinds.Block (decls_of (map decl_tree decls.now)) (items_of (map item_tree items.now))) found.old)) }
     {
-        let decls = self.decls(table, &block.decls, found)?;
-        let items = self.items(table, &block.items, found)?;
+        let decls = self.decls(table, decls, found)?;
+        let items = self.items(table, items, found)?;
         Ok(NodeKind::Block(decls, items))
     }
 

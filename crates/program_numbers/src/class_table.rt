@@ -22,7 +22,7 @@ impl Numbering {
         ensures { IfOk result (λ made. Makes self.now table.old table.new (λ ns. map (field_in ns) made.items)
             (map field_view fields.now)) }
     {
-        let mut made = Vec::new(self.alloc);
+        let mut made = Vec::with_capacity(self.alloc, fields.len())?;
         for field in fields {
             let of = self.simple_type(table, field.field_type)?;
             made.push((field.name, of))?;
@@ -52,7 +52,7 @@ impl Numbering {
         ensures { IfOk result (λ numbers. map (numbered self.now.names) numbers.items
             ≡ map (λ class. class.place) (map class_view classes.now)) }
     {
-        let mut numbers = Vec::new(self.alloc);
+        let mut numbers = Vec::with_capacity(self.alloc, classes.len())?;
         for class in classes {
             numbers.push(self.names.number(class.place))?;
         }

@@ -95,7 +95,7 @@ impl Numbering {
             Kind::ForList(turns) => self.for_list(table, place, turns, found),
             Kind::WhileDo(repetition) => self.repetition(table, repetition, found),
             Kind::Assert(condition) => Ok(NodeKind::Assert(self.boxed(table, condition, found)?)),
-            Kind::Block(block) => self.block(table, block, found),
+            Kind::Block(block) => self.block(table, &block.decls, &block.items, found),
         }
     }
 

@@ -49,14 +49,17 @@ impl Numbering {
         statements.into_places()
     }
 
-    /// The names that are declared, each by its number.
+    /// The names that are declared, each by its number. Most stand side by side, so that the next has the next number.
     pub fn targets(&self, names: &[(Spelling, Place)]) -> Result<Targets, AllocError>
         requires { KnowsDeclared self.now.names (declare_at names.now) }
         ensures { IfOk result (λ targets. map (target_in self.now) targets.items ≡ declare_at names.now) }
     {
-        let mut targets = Vec::new(self.alloc);
+        let mut targets = Vec::with_capacity(self.alloc, names.len())?;
+        let mut next = 0;
         for name in names {
-            targets.push((self.names.number(name.1), name.1))?;
+            let number = self.names.likely_number(next, name.1);
+            targets.push((number, name.1))?;
+            next = number.saturating_add(1);
         }
         Ok(targets)
     }
@@ -101,7 +104,7 @@ impl Numbering {
         ensures places { IfOk result (λ ids. places_in self.now.classes ids.items ≡ classes.now) }
         ensures members { IfOk result (λ ids. HasMembers self.now.classes ids.items) }
     {
-        let mut ids = Vec::new(self.alloc);
+        let mut ids = Vec::with_capacity(self.alloc, classes.len())?;
         for class in classes {
             ids.push(self.class(*class)?)?;
         }

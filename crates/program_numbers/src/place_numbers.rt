@@ -1,31 +1,29 @@
-ghost use Rattle.std.specs.Prelude.{◌≡◌, ◌<◌, IfOk, length, true};
+ghost use Rattle.std.specs.Prelude.{◌≡◌, ◌<◌, ◌≤◌, IfOk, IfSome, length, true};
 ghost use Rattle.algolw_typing.specs.ProgramView.{numbered};
 ghost use Rattle.algolw_typing.specs.Types.{has};
 
 use std::alloc::AllocError;
-use std::collections::BTreeMap;
 use std::marker::Model;
 use value_ops::Place;
 
-/// Places that go by their numbers, which are their positions.
+/// Places that go by their numbers, which are their positions. A place is found at once where they are in order, as those of a
+/// program are, or two lists in order, as those of a program with a library are: the library's stand before its own.
 #[derive(Drop)]
 pub(crate) struct PlaceNumbers {
     places: Vec<Place>,
-    /// A position of each place.
-    numbers: BTreeMap<Place, u32>,
+    /// The number with which the second list begins. It is how many places there are where they are one list.
+    second: usize,
 }
 
 impl Model for PlaceNumbers {
-    ghost use Rattle.std.specs.Prelude.{List};
+    ghost use Rattle.std.specs.Prelude.{◌<◌, ◌≤◌, ◌^◌, List, length};
     ghost use Rattle.value_ops.specs.declared.places.Place.{Place};
 
     ghost Value = { List Place };
 
-    ghost use Rattle.program_numbers.specs.Held.{Positions};
-
     ghost view = { λ n. n.places.items };
 
-    ghost invariant = { λ n. Positions n.places.items n.numbers };
+    ghost invariant = { λ n. (length n.places.items < 2 ^ 32) × (n.second ≤ length n.places.items) };
 }
 
 impl PlaceNumbers {
@@ -33,14 +31,11 @@ impl PlaceNumbers {
     pub(crate) fn new(places: Vec<Place>) -> Result<PlaceNumbers, AllocError>
         ensures { IfOk result (λ numbers. numbers ≡ places.items) }
     {
-        let mut numbers = BTreeMap::new(*places.allocator());
-        for (position, place) in places.iter().enumerate() {
-            let Ok(number) = u32::try_from(position) else {
-                return Err(AllocError);
-            };
-            numbers.insert(*place, number)?;
+        if u32::try_from(places.len()).is_err() {
+            return Err(AllocError);
         }
-        Ok(PlaceNumbers { places, numbers })
+        let second = second_list(places.as_slice());
+        Ok(PlaceNumbers { places, second })
     }
 
     /// A number of a place.
@@ -49,10 +44,51 @@ impl PlaceNumbers {
         ensures place { numbered self.now result ≡ place }
         ensures within { result < length self.now }
     {
-        match self.numbers.get(&place) {
-            Some(number) => *number,
-            None => unreachable!(),
+        match self.find(place) {
+            Some(number) => number,
+            None => self.first_number(place),
         }
+    }
+
+    /// A number of a place, where the list in which it stands is in order.
+    fn find(&self, place: Place) -> Option<u32>
+        ensures place { IfSome result (λ number. numbered self.now number ≡ place) }
+        ensures within { IfSome result (λ number. number < length self.now) }
+    {
+        let (first, second) = self.places.split_at(self.second);
+        match first.binary_search(&place) {
+            Ok(number) => Some(number as u32),
+            Err(_) => match second.binary_search(&place) {
+                Ok(number) => Some((self.second + number) as u32),
+                Err(_) => None,
+            },
+        }
+    }
+
+    /// A number of a place, which is likely to be this one.
+    pub(crate) fn likely_number(&self, likely: u32, place: Place) -> u32
+        requires { has self.now place ≡ true }
+        ensures place { numbered self.now result ≡ place }
+        ensures within { result < length self.now }
+    {
+        match self.places.get(likely as usize) {
+            Some(held) if *held == place => likely,
+            _ => self.number(place),
+        }
+    }
+
+    /// The first number of a place, wherever it stands.
+    fn first_number(&self, place: Place) -> u32
+        requires { has self.now place ≡ true }
+        ensures place { numbered self.now result ≡ place }
+        ensures within { result < length self.now }
+    {
+        for (number, held) in self.places.iter().enumerate() {
+            if *held == place {
+                return number as u32;
+            }
+        }
+        unreachable!()
     }
 
     /// Whether this is the place with a number.
@@ -71,4 +107,16 @@ impl PlaceNumbers {
     {
         self.places
     }
+}
+
+/// The number of the first place that stands before the one in front of it, or how many places there are.
+fn second_list(places: &[Place]) -> usize
+    ensures { result ≤ length places.now }
+{
+    for number in 1..places.len() {
+        if places[number] < places[number - 1] {
+            return number;
+        }
+    }
+    places.len()
 }

@@ -1,5 +1,5 @@
 ghost use Rattle.std.specs.Prelude.{◌≡◌, IfOk, OnOk, map};
-ghost use Rattle.algolw_tree.specs.View.{tree};
+ghost use Rattle.algolw_tree.specs.Wholes.{whole_tree};
 ghost use Rattle.algolw_typing.specs.Faults.{typed_program};
 ghost use Rattle.algolw_typing.specs.Known.{AllHad, Knows, ClassesKnow};
 ghost use Rattle.algolw_typing.specs.ProgramView.{HoldsProgram};
@@ -9,7 +9,7 @@ ghost use Rattle.typed_findings.specs.Findings.{counted_places, finding_view, fo
 
 use crate::numbering::Numbering;
 use crate::place_numbers::PlaceNumbers;
-use algolw_tree::{NameInfo, Phrase, Program};
+use algolw_tree::{NameInfo, Program, Whole};
 use block_scopes::FoundClass;
 use std::alloc::{AllocError, Global};
 use typed_findings::{Finding, Untaken, statements};
@@ -38,7 +38,7 @@ fn name_places(alloc: Global, names: &[NameInfo]) -> Result<Vec<Place>, AllocErr
 fn class_places(alloc: Global, classes: &[FoundClass]) -> Result<Vec<Place>, AllocError>
     ensures { IfOk result (λ places. places.items ≡ map (λ class. class.place) (map class_view classes.now)) }
 {
-    let mut places = Vec::new(alloc);
+    let mut places = Vec::with_capacity(alloc, classes.len())?;
     for class in classes {
         places.push(class.place)?;
     }
@@ -78,34 +78,34 @@ fn program_numbering(
     })
 }
 
-/// The program in memory that a phrase is of which this is found, with these names and these record classes.
+/// The program in memory that a tree is of which this is found, with these names and these record classes.
 pub fn number_program<'a>(
     alloc: Global,
-    phrase: &Phrase,
+    root: Whole<'_>,
     findings: &[Finding<'a>],
     names: Vec<NameInfo>,
     classes: &[FoundClass<'a>],
 ) -> Result<Program, AllocError>
-    requires found { map finding_view findings.now ≡ found_of (typed_program (tree phrase.now)).node }
+    requires found { map finding_view findings.now ≡ found_of (typed_program (whole_tree root)).node }
     requires known { Knows (map (λ info. info.place) names.items)
-        (map (λ class. class.place) (map class_view classes.now)) (typed_program (tree phrase.now)).node }
+        (map (λ class. class.place) (map class_view classes.now)) (typed_program (whole_tree root)).node }
     requires fields { ClassesKnow (map (λ class. class.place) (map class_view classes.now))
         (map class_view classes.now) }
     requires named { AllHad (map (λ info. info.place) names.items)
         (map (λ class. class.place) (map class_view classes.now)) }
     ensures { IfOk result (λ program. HoldsProgram program
         (record {
-          root = (typed_program (tree phrase.now)).node;
+          root = (typed_program (whole_tree root.entry)).node;
           names = names.items;
           classes = map class_view classes.now;
           statements =
-              by_place (λ place. place) (statements (typed_program (tree phrase.now)).node);
+              by_place (λ place. place) (statements (typed_program (whole_tree root.entry)).node);
         })) }
 {
     let numbering = program_numbering(alloc, findings, &names, classes)?;
     let mut table = numbering.class_table(classes)?;
     let mut found = Untaken::new(findings);
-    let root = numbering.node(&mut table, phrase, &mut found)?;
+    let root = numbering.root(&mut table, root, &mut found)?;
     let class_names = numbering.class_names(classes)?;
     Ok(Program {
         root,

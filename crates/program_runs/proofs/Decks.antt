@@ -1,6 +1,6 @@
 -- The code of decks, and the results of jobs.
 use Rattle.std.proofs.Common.{◌≡◌, ℕ, List, [], ◌∷◌, ◌++◌, length, refl, sym, ap, ◌∙◌, inl, inr}
-use Rattle.std.specs.Prelude.{◌⊎◌, None, take, codes}
+use Rattle.std.specs.Prelude.{◌⊎◌, Option, take, codes}
 use Rattle.value_ops.specs.declared.places.Diagnostic.{Diagnostic}
 use Rattle.value_ops.specs.declared.places.Place.{Place}
 use Rattle.deck_reader.specs.JobView.{JobView}
@@ -20,18 +20,19 @@ use Rattle.stack_code.specs.Run.{normal, stopped, machine_of}
 use Rattle.phrase_code.specs.Coding.{program_code}
 use Rattle.phrase_code.proofs.Fitting.{program_code_is_well_formed}
 use Rattle.faultless_programs.proofs.Programs.{programs_without_faults_are_never_wrong}
-use Rattle.algolw_meaning.specs.DeckDiagnostics.{HasProgram, HasDiagnostics, deck_diagnostics}
-use Rattle.algolw_meaning.proofs.Found.{diagnostics_of_decks}
-use Rattle.algolw_meaning.specs.Meaning.{JobResult, counts_of}
+use Rattle.algolw_meaning.specs.DeckDiagnostics.{JobHasProgram, JobHasDiagnostics, job_diagnostics}
+use Rattle.algolw_meaning.proofs.Composing.{diagnostics_of_jobs}
+use Rattle.algolw_meaning.specs.Meaning.{JobResult, counts_of, job_library}
 use Rattle.algolw_meaning.specs.Running as meaning
 use Rattle.algolw_meaning.specs.Running.{setting_of, run_result, program_outcome, job_result, counted_lines, lines, stopped_by}
 use Rattle.algolw_meaning.specs.Texts.{sum_line}
-use Rattle.deck_programs.specs.Laws.{IsDiagnosed, IsRun}
+use Rattle.deck_programs.specs.Laws.{IsDiagnosed, IsRun, StandsBefore}
+use Rattle.deck_programs.proofs.Batches.{jobs_stand_before}
 use Rattle.deck_programs.proofs.Jobs.{jobs_are_never_wrong}
-use Rattle.deck_programs.proofs.Decks.{trees_of_decks}
+use Rattle.deck_programs.proofs.Together.{trees_of_jobs}
 use Rattle.program_runs.specs.Shown.{ending_of, dump_section, table_result}
 use Rattle.algolw_meaning.specs.declared.ending.Ending.{Ending}
-use Rattle.program_runs.specs.Laws.{Shows, RunsAsItMeans, HasRightCode, CodeOfProgramsIsRight, CodeOfDecksIsRight, IsRunByTable, JobsRunByTable}
+use Rattle.program_runs.specs.Laws.{Shows, RunsAsItMeans, HasRightCode, CodeOfProgramsIsRight, CodeOfDecksIsRight, IsRunByTable, JobsRunByTable, BatchesRunByTable}
 use Rattle.program_runs.proofs.Runs.{programs_run_as_they_mean}
 
 -- ---- decks
@@ -41,16 +42,16 @@ code_of_programs_is_right x e d =
     let runs : (set : Setting) → RunsAsItMeans set (program_phrase (program_of x)) = λ set. programs_run_as_they_mean set (program_of x) (programs_without_faults_are_never_wrong set x e d) in
     record { well_formed = program_code_is_well_formed (program_phrase (program_of x)); ends = λ set. (runs set).run; runs = runs }
 
--- what the tokens of a deck spell, without faults
-pub spelled_is_right : (deck : List (List ℕ)) (x : Phrase) → HasProgram deck x → program_faults x ≡ [] → HasRightCode (program_phrase (program_of x))
-spelled_is_right deck x (tokens, are, is) e = code_of_programs_is_right x e (trees_of_decks deck tokens x None are is.spelled)
+-- what the tokens of a deck spell, with its library, without faults
+pub spelled_is_right : (library : Option (List (List ℕ))) (deck : List (List ℕ)) (x : Phrase) → StandsBefore library deck → JobHasProgram library deck x → program_faults x ≡ [] → HasRightCode (program_phrase (program_of x))
+spelled_is_right library deck x before h e = code_of_programs_is_right x e (trees_of_jobs.trees library deck x before h)
 
 pub code_of_decks_is_right : CodeOfDecksIsRight
-code_of_decks_is_right deck e = by (deck_diagnostics deck) (diagnostics_of_decks deck) e
+code_of_decks_is_right library deck before e = by (job_diagnostics library deck) (diagnostics_of_jobs library deck) e
   where
-    by : (found : List Diagnostic) → HasDiagnostics deck found → found ≡ [] → (x : Phrase) × HasProgram deck x × HasRightCode (program_phrase (program_of x))
+    by : (found : List Diagnostic) → JobHasDiagnostics library deck found → found ≡ [] → (x : Phrase) × JobHasProgram library deck x × HasRightCode (program_phrase (program_of x))
     by found (inl (d, h, q)) e = absurd (cc (q, e))
-    by found (inr (x, h, q)) e = (x, h, spelled_is_right deck x h (sym q ∙ e))
+    by found (inr (x, h, q)) e = (x, h, spelled_is_right library deck x before h (sym q ∙ e))
 
 -- ---- jobs
 
@@ -86,15 +87,18 @@ module _ (job : JobView) (statements : List Place) (code : Code) where
   shown_result (stopped y w m) (on a s) x = absurd x.ends
   shown_result (stopped y w m) (jump l s) x = absurd x.ends
 
-run_by_table : (job : JobView) (result : JobResult) → IsRun job result → IsRunByTable job result
-run_by_table job result x =
+run_by_table : (job : JobView) (result : JobResult) → StandsBefore (job_library job) job.deck → IsRun job result → IsRunByTable job result
+run_by_table job result before x =
     let p = program_of x.program in
-    let r = (spelled_is_right job.deck x.program x.spelled x.faultless).runs (setting_of job) in
+    let r = (spelled_is_right (job_library job) job.deck x.program before x.spelled x.faultless).runs (setting_of job) in
     record { program = x.program; spelled = x.spelled; faultless = x.faultless; run = r.run; is = x.is ∙ shown_result job p.statements (program_code (program_phrase p)) r.run.outcome (program_outcome job p) r.by_copying }
 
 pub jobs_run_by_table : JobsRunByTable
-jobs_run_by_table job = by (jobs_are_never_wrong job)
+jobs_run_by_table job before = by (jobs_are_never_wrong job before)
   where
     by : IsDiagnosed job (job_result job) ⊎ IsRun job (job_result job) → IsDiagnosed job (job_result job) ⊎ IsRunByTable job (job_result job)
     by (inl d) = inl d
-    by (inr x) = inr (run_by_table job (job_result job) x)
+    by (inr x) = inr (run_by_table job (job_result job) before x)
+
+pub batches_run_by_table : BatchesRunByTable
+batches_run_by_table given bytes k job less = jobs_run_by_table _ (jobs_stand_before given bytes k job less)

@@ -1,5 +1,7 @@
 -- The code of every deck without faults runs as the deck means, for all data and limits.
-use Rattle.std.specs.Prelude.{◌≡◌, ◌⊎◌, ℕ, List, []}
+use Rattle.std.specs.Prelude.{◌≡◌, ◌⊎◌, ℕ, List, [], Option, All}
+use Rattle.deck_reader.specs.declared.batch.Account.{Account}
+use Rattle.deck_reader.specs.Batch.{batch_with}
 use Rattle.deck_reader.specs.JobView.{JobView}
 use Rattle.algolw_tree.specs.Tree.{Phrase}
 use Rattle.algolw_typing.specs.Faults.{program_faults}
@@ -18,10 +20,10 @@ use Rattle.stack_code.specs.GoingOn.{WellFormed}
 use Rattle.phrase_code.specs.Coding.{program_code}
 use Rattle.program_soundness.specs.Laws.{NeverGoesWrong, outcome_by_environments}
 use Rattle.faultless_programs.specs.Laws.{IsDeckTree}
-use Rattle.algolw_meaning.specs.DeckDiagnostics.{HasProgram, deck_diagnostics}
-use Rattle.algolw_meaning.specs.Meaning.{JobResult}
+use Rattle.algolw_meaning.specs.DeckDiagnostics.{JobHasProgram, job_diagnostics}
+use Rattle.algolw_meaning.specs.Meaning.{JobResult, job_library}
 use Rattle.algolw_meaning.specs.Running.{setting_of, job_result}
-use Rattle.deck_programs.specs.Laws.{IsDiagnosed}
+use Rattle.deck_programs.specs.Laws.{IsDiagnosed, StandsBefore}
 use Rattle.program_runs.specs.Shown.{table_result}
 
 -- ---- one run
@@ -62,20 +64,24 @@ pub record HasRightCode (program : phrases.Phrase) : Type 0 where
 abbrev pub CodeOfProgramsIsRight : Type 0
 CodeOfProgramsIsRight = (x : Phrase) → program_faults x ≡ [] → IsDeckTree x → HasRightCode (program_phrase (program_of x))
 
--- The tokens of a deck that has no diagnostic spell a program, whose code is right.
+-- A deck that has no diagnostic, alone or with its library, is a program, whose code is right.
 abbrev pub CodeOfDecksIsRight : Type 0
-CodeOfDecksIsRight = (deck : List (List ℕ)) → deck_diagnostics deck ≡ [] → (x : Phrase) × HasProgram deck x × HasRightCode (program_phrase (program_of x))
+CodeOfDecksIsRight = (library : Option (List (List ℕ))) (deck : List (List ℕ)) → StandsBefore library deck → job_diagnostics library deck ≡ [] → (x : Phrase) × JobHasProgram library deck x × HasRightCode (program_phrase (program_of x))
 
 -- ---- jobs
 
--- The tokens of the job's deck spell a program without faults, and the result is what the run of its code shows.
+-- The tokens of the job's deck, with its library, spell a program without faults, and the result is what the run of its code shows.
 pub record IsRunByTable (job : JobView) (result : JobResult) : Type 0 where
   pub program : Phrase
-  pub spelled : HasProgram job.deck program
+  pub spelled : JobHasProgram (job_library job) job.deck program
   pub faultless : program_faults program ≡ []
   pub run : Runs (setting_of job) (program_code (program_phrase (program_of program)))
   pub is : result ≡ table_result job (program_of program).statements (program_code (program_phrase (program_of program))) run.outcome
 
 -- Every job is diagnosed, or its result is what the run of its program's code shows.
 abbrev pub JobsRunByTable : Type 0
-JobsRunByTable = (job : JobView) → IsDiagnosed job (job_result job) ⊎ IsRunByTable job (job_result job)
+JobsRunByTable = (job : JobView) → StandsBefore (job_library job) job.deck → IsDiagnosed job (job_result job) ⊎ IsRunByTable job (job_result job)
+
+-- So it is with each job of a batch, whatever the accounts and the input.
+abbrev pub BatchesRunByTable : Type 0
+BatchesRunByTable = (given : Option (List Account)) (bytes : List ℕ) → All (λ job. IsDiagnosed job (job_result job) ⊎ IsRunByTable job (job_result job)) (batch_with given bytes).jobs

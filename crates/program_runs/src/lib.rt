@@ -5,5 +5,6 @@
 mod laws;
 
 pub use laws::{
-    code_of_decks_is_right, code_of_programs_is_right, jobs_run_by_table, programs_run_as_they_mean,
+    batches_run_by_table, code_of_decks_is_right, code_of_programs_is_right, jobs_run_by_table,
+    programs_run_as_they_mean,
 };

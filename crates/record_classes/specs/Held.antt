@@ -6,7 +6,7 @@ use Rattle.std.specs.BTreeSet.{BTreeSet}
 use Rattle.std.specs.Cmp.Lexicographic.{slice_cmp}
 use Rattle.std.specs.List.Sorted.{IsStrictlySortedBy}
 use Rattle.std.specs.Ordering.{nat_cmp}
-use Rattle.std.specs.Prelude.{ℕ, ◌≡◌, cond, nat_lt, List, length, Option, Some, None}
+use Rattle.std.specs.Prelude.{ℕ, ◌≡◌, ◌≤◌, cond, nat_lt, List, length, Option, Some, None}
 use Rattle.std.specs.declared.vec.Vec.{Vec}
 use Rattle.std.specs.declared.alloc.Global.{Global}
 use Rattle.std.specs.declared.cmp.Ordering.{Ordering}
@@ -18,6 +18,11 @@ use Rattle.record_classes.specs.Classes.{Field, has, number_of, position_of}
 -- the positions of a class: where among the fields each name stands first
 pub record Positions (fields : List Field) (positions : BTreeMap (List ℕ) ℕ) : Type 0 where
   pub at : (name : List ℕ) → tree.get bytes_cmp positions name ≡ position_of fields name
+
+-- what a class knows of its fields: they are few, or the positions are theirs
+abbrev pub FieldPositions : List Field → Option (BTreeMap (List ℕ) ℕ) → Type 0
+FieldPositions fields None = length fields ≤ 8
+FieldPositions fields (Some positions) = Positions fields positions
 
 -- classes in the order of their numbers
 abbrev pub class_cmp : ClassId → ClassId → Ordering

@@ -1,5 +1,6 @@
-ghost use Rattle.std.specs.Prelude.{◌≡◌, ◌<◌, IfOk, length};
+ghost use Rattle.std.specs.Prelude.{◌≡◌, ◌<◌, ◌≤◌, IfOk, length};
 ghost use Rattle.record_classes.specs.Classes.{position_of};
+ghost use Rattle.record_classes.specs.Held.{Positions};
 
 use std::alloc::AllocError;
 use std::collections::BTreeMap;
@@ -11,20 +12,23 @@ use value_ops::{Name, SimpleType};
 pub(crate) struct Class {
     name: Name,
     fields: Vec<(Name, SimpleType)>,
-    /// Where among the fields each name stands first.
-    positions: BTreeMap<Name, u32>,
+    /// Where among the fields each name stands first; `None` of few fields, among which a name is found by looking at each.
+    positions: Option<BTreeMap<Name, u32>>,
 }
+
+/// How many fields are few.
+const FEW: usize = 8;
 
 impl Model for Class {
     ghost use Rattle.record_classes.specs.Classes.{Class as ClassView};
 
     ghost Value = { ClassView };
 
-    ghost use Rattle.record_classes.specs.Held.{Positions};
+    ghost use Rattle.record_classes.specs.Held.{FieldPositions};
 
     ghost view = { λ c. record { name = c.name; fields = c.fields.items } };
 
-    ghost invariant = { λ c. Positions c.fields.items c.positions };
+    ghost invariant = { λ c. FieldPositions c.fields.items c.positions };
 }
 
 impl Class {
@@ -33,10 +37,11 @@ impl Class {
         requires { length fields.items < 4294967295 }
         ensures { IfOk result (λ class. class ≡ record { name = name; fields = fields.items }) }
     {
-        let mut positions = BTreeMap::new(*fields.allocator());
-        for (position, field) in fields.iter().enumerate() {
-            positions.entry(field.0)?.or_insert(position as u32);
-        }
+        let positions = if fields.len() <= FEW {
+            None
+        } else {
+            Some(positions_of(&fields)?)
+        };
         Ok(Class {
             name,
             fields,
@@ -73,6 +78,34 @@ impl Class {
     pub(crate) fn find(&self, field: &Name) -> Option<u32>
         ensures { result ≡ position_of self.now.fields field.now }
     {
-        self.positions.get(field).copied()
+        match &self.positions {
+            Some(positions) => positions.get(field).copied(),
+            None => position_among(&self.fields, field),
+        }
     }
+}
+
+/// Where among these fields each name stands first.
+fn positions_of(fields: &Vec<(Name, SimpleType)>) -> Result<BTreeMap<Name, u32>, AllocError>
+    requires { length fields.now.items < 4294967295 }
+    ensures { IfOk result (λ positions. Positions fields.now.items positions) }
+{
+    let mut positions = BTreeMap::new(*fields.allocator());
+    for (position, field) in fields.iter().enumerate() {
+        positions.entry(field.0)?.or_insert(position as u32);
+    }
+    Ok(positions)
+}
+
+/// Where among few fields the first one of a name stands.
+fn position_among(fields: &[(Name, SimpleType)], field: &Name) -> Option<u32>
+    requires { length fields.now ≤ 8 }
+    ensures { result ≡ position_of fields.now field.now }
+{
+    for (position, (name, _)) in fields.iter().enumerate() {
+        if *name == *field {
+            return Some(position as u32);
+        }
+    }
+    None
 }

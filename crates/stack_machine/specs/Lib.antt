@@ -1,3 +1,4 @@
 pub mod Dumped
 pub mod Desks
 pub mod Runs
+pub mod SpelledRows

@@ -1,6 +1,7 @@
 //! Running code: `Desk`, which holds what a run needs, and `run`.
 #![tactic(auto)]
 
+mod arms;
 mod desk;
 mod dump;
 mod running;

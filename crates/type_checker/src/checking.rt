@@ -1,12 +1,12 @@
 ghost use Rattle.std.specs.Prelude.{◌≡◌, [], IfOk, map, take};
-ghost use Rattle.algolw_tree.specs.View.{tree};
+ghost use Rattle.algolw_tree.specs.Wholes.{whole_tree};
 ghost use Rattle.algolw_typing.specs.Faults.{in_order, program_faults, typed_program};
 ghost use Rattle.algolw_typing.specs.Programs.{program_of};
 ghost use Rattle.algolw_typing.specs.ProgramView.{HoldsProgram};
 ghost use Rattle.typed_findings.specs.Findings.{finding_view, found_of};
 ghost use Rattle.type_checker.specs.Says.{Says};
 
-use algolw_tree::{Phrase, Program};
+use algolw_tree::{Program, Whole};
 use block_scopes::{resolve, sort_faults};
 use bumpalo::Bump;
 use phrase_checker::check_program;
@@ -29,32 +29,32 @@ pub enum Checked {
 
 /// Checks the names and types of a program. There is room for so many findings from the first on: a row that grows would leave
 /// holes as large as itself.
-pub fn check(alloc: Global, phrase: Phrase, room: usize) -> Result<Checked, AllocError>
-    ensures { IfOk result (λ checked. Says (tree phrase) checked) }
+pub fn check(alloc: Global, root: Whole<'_>, room: usize) -> Result<Checked, AllocError>
+    ensures { IfOk result (λ checked. Says (whole_tree root.entry) checked) }
 {
     let arena = Bump::new(alloc);
-    let found = check_program(alloc, &arena, &phrase, room)?;
+    let found = check_program(alloc, &arena, root, room)?;
     if found.faults.is_empty() {
-        let program = good_program(alloc, &arena, &phrase, &found.findings)?;
+        let program = good_program(alloc, &arena, root, &found.findings)?;
         return Ok(Checked::Good(program));
     }
     let given = given_diagnostics(found.faults)?;
     Ok(Checked::Bad(given))
 }
 
-/// The program that a phrase without faults is, of whose parts this is found.
+/// The program that a tree without faults is, of whose parts this is found.
 fn good_program<'a>(
     alloc: Global,
     arena: &'a Bump,
-    phrase: &Phrase,
+    root: Whole<'_>,
     findings: &[Finding<'a>],
 ) -> Result<Program, AllocError>
-    requires faults { program_faults (tree phrase.now) ≡ [] }
-    requires found { map finding_view findings.now ≡ found_of (typed_program (tree phrase.now)).node }
-    ensures { IfOk result (λ program. HoldsProgram program (program_of (tree phrase.now))) }
+    requires faults { program_faults (whole_tree root) ≡ [] }
+    requires found { map finding_view findings.now ≡ found_of (typed_program (whole_tree root)).node }
+    ensures { IfOk result (λ program. HoldsProgram program (program_of (whole_tree root.entry))) }
 {
-    let scopes = resolve(alloc, arena, phrase)?;
-    number_program(alloc, phrase, findings, scopes.names, &scopes.classes)
+    let scopes = resolve(alloc, arena, root)?;
+    number_program(alloc, root, findings, scopes.names, &scopes.classes)
 }
 
 /// The diagnostics that are given of all that are found: the first twenty, in order.

@@ -17,6 +17,8 @@ mod displays;
 #[cfg(test)]
 mod jobs;
 #[cfg(test)]
+mod libraries;
+#[cfg(test)]
 mod lists;
 #[cfg(test)]
 mod office_day;

@@ -7,7 +7,7 @@ use crate::end::WorkEnd;
 use batch_io::Gate;
 use deck_reader::Job;
 use job_queue::{JobQueue, TakePass, Ticket};
-use job_runner::{Desk, run_job};
+use job_runner::{Desk, Shelf, run_job};
 use office::{Admitted, Office, OfficeBrand, Standing};
 use std::alloc::{AllocError, Global};
 use std::sync::{Arc, Mutex, Wait};
@@ -26,8 +26,8 @@ const SHORTEST_NAP: u64 = 100;
 const LONGEST_NAP: u64 = 10_000;
 
 /// Works until the office is over: takes a ticket, runs its job and settles it; where there is no ticket, lets the office
-/// decide the next job. Where a ticket can't be settled the office is stopped, and the ticket is brought back. The pass
-/// then owes its amount, and nothing where there is none.
+/// decide the next job. Each library that its jobs name is prepared once. Where a ticket can't be settled the office is
+/// stopped, and the ticket is brought back. The pass then owes its amount, and nothing where there is none.
 pub fn work<B: OfficeBrand, R: Wait, G: Gate>(
     rt: &R,
     alloc: Global,
@@ -42,6 +42,7 @@ pub fn work<B: OfficeBrand, R: Wait, G: Gate>(
     ensures parts { pass.new.share.parts ≡ pass.old.share.parts }
 {
     let mut idle = Idle::new();
+    let mut shelf = Shelf::new(alloc);
     for _ in rt.forever() {
         if office.lock(rt).is_over() {
             return WorkEnd::Over;
@@ -56,7 +57,7 @@ pub fn work<B: OfficeBrand, R: Wait, G: Gate>(
             }
             Some(ticket) => {
                 idle.end();
-                if let Some(end) = serve(rt, alloc, office, pass, ticket, desk, gate) {
+                if let Some(end) = serve(rt, alloc, office, pass, ticket, desk, &mut shelf, gate) {
                     office.lock(rt).stop();
                     return end;
                 }
@@ -128,6 +129,7 @@ fn serve<B: OfficeBrand, R: Wait, G: Gate>(
     pass: &mut TakePass<B>,
     ticket: Ticket,
     desk: &mut Desk,
+    shelf: &mut Shelf,
     gate: &G,
 ) -> Option<WorkEnd>
     requires { pass.old.owed ≡ ticket.amount }
@@ -140,7 +142,7 @@ fn serve<B: OfficeBrand, R: Wait, G: Gate>(
         Kept::NoMemory => return Some(WorkEnd::NoMemory(ticket)),
     };
     gate.enter(ticket.number());
-    let ran = run_job(alloc, desk, &job);
+    let ran = run_job(alloc, desk, shelf, &job);
     gate.leave(ticket.number());
     let Ok(ended) = ran else {
         return Some(WorkEnd::NoMemory(ticket));

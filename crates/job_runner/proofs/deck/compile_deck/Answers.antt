@@ -1,10 +1,13 @@
-use Rattle.std.proofs.Common.{inl, subst}
-use Rattle.algolw_scanner.specs.Laws.{IsScanOf}
-use Rattle.job_runner.proofs.Compiling.{one_shown}
+use Rattle.std.proofs.Common.{refl, subst, None}
+use Rattle.algolw_meaning.specs.DeckDiagnostics.{IsFound}
+use Rattle.job_runner.specs.Reading.{deck_read}
 use Rattle.job_runner.proofs.deck.compile_deck.Goals as goal
 
-pub returns-in-Tokens : goal.returns-in-Tokens
-returns-in-Tokens c = c.compile_tokens.ensures c.args.deck.now (subst (IsScanOf c.args.deck.now) c.in-Tokens.is c.in_ok-tokens.ensures.said)
+pub compile_alone-requires : goal.compile_alone-requires
+compile_alone-requires c = (refl, (c.args.deck.now, subst (λ r. IsFound c.args.deck.now (deck_read r)) c.in-Tree.is c.in_ok-phrase.ensures))
 
-pub returns-in_ok-vec-in-Bad : goal.returns-in_ok-vec-in-Bad
-returns-in_ok-vec-in-Bad c = one_shown c.args.deck.now c.in-Bad.fault c.in_ok-vec-in-Bad.field-0.items (inl (subst (IsScanOf c.args.deck.now) c.in-Bad.is c.in_ok-tokens.ensures.said)) c.in_ok-vec-in-Bad.ensures.items
+pub returns-in-Tree : goal.returns-in-Tree
+returns-in-Tree c = c.compile_alone.ensures c.args.deck.now (subst (λ r. IsFound c.args.deck.now (deck_read r)) c.in-Tree.is c.in_ok-phrase.ensures)
+
+pub returns-in-Bad : goal.returns-in-Bad
+returns-in-Bad c = c.diagnosed.ensures None c.args.deck.now (subst (λ r. IsFound c.args.deck.now (deck_read r)) c.in-Bad.is c.in_ok-phrase.ensures)

@@ -18,7 +18,7 @@ use Rattle.block_scopes.specs.Adding.{Adds, frame_view}
 use Rattle.block_scopes.specs.Parts.{item_naming}
 use Rattle.block_scopes.proofs.Added.{adds_nothing, adds_and, finish, turn}
 use Rattle.block_scopes.proofs.Arms.{and_nothing, procedure_adds, procedure_is, by_naming, by_kind, by_listing, by_decl, by_tree, controlled_adds, for_step_naming, for_list_naming, range_inside, values_inside, item_first, size_item, size_first}
-use Rattle.algolw_tree.proofs.Rows.{applied_at, assignment_at, relation_at, repetition_at, listed_at, listed_is, chain_at, chain_is, class_test_at, conditional_at, conditional_is, case_value_at, case_value_is, case_do_at, for_step_at, for_step_is, for_list_at, for_list_is, block_at, actuals_at, array_at}
+use Rattle.algolw_tree.proofs.Rows.{applied_at, assignment_at, relation_at, repetition_at, listed_at, listed_is, chain_at, chain_is, class_test_at, conditional_at, conditional_is, case_value_at, case_value_is, case_do_at, for_step_at, for_step_is, for_list_at, for_list_is, block_parts_at, actuals_at, array_at}
 use Rattle.algolw_tree.proofs.Sizes.{size, size_kind, size_phrases, size_links, size_lists, size_listing, size_actuals, size_actual, size_items, size_bounds, size_decls, size_decl, item_smaller}
 use Rattle.block_scopes.proofs.resolver.Resolver.+phrases.Goals as goal
 
@@ -168,10 +168,10 @@ pub phrase-returns-in-CaseDo : goal.phrase-returns-in-CaseDo
 phrase-returns-in-CaseDo t c = by_kind c.choice.result c.args.self.now c.choice.new.self (frame_view c.args.frame) c.args.path.now c.args.phrase.now.place _ _ (case_do_at _ c.in-CaseDo.case _ c.in-CaseDo.is c.deref-in-CaseDo.ensures) (c.choice.ensures c.args.phrase.now.place)
 
 pub phrase-block-requires : goal.phrase-block-requires
-phrase-block-requires t c = search (rules, ap size_kind (block_at _ c.in-Block.block _ c.in-Block.is c.deref-in-Block.ensures))
+phrase-block-requires t c = search (rules, ap size_kind (block_parts_at _ c.in-Block.block c.deref-in-Block.result.now c.deref-in-Block-3.result.now c.deref-in-Block-2.result.now c.deref-in-Block-4.result.now c.in-Block.is c.deref-in-Block.ensures c.deref-in-Block-3.ensures c.deref-in-Block-2.ensures.value c.deref-in-Block-4.ensures.value))
 
 pub phrase-returns-in-Block : goal.phrase-returns-in-Block
-phrase-returns-in-Block t c = by_kind c.block.result c.args.self.now c.block.new.self (frame_view c.args.frame) c.args.path.now c.args.phrase.now.place _ _ (block_at _ c.in-Block.block _ c.in-Block.is c.deref-in-Block.ensures) (c.block.ensures c.args.phrase.now.place)
+phrase-returns-in-Block t c = by_kind c.block.result c.args.self.now c.block.new.self (frame_view c.args.frame) c.args.path.now c.args.phrase.now.place _ _ (block_parts_at _ c.in-Block.block c.deref-in-Block.result.now c.deref-in-Block-3.result.now c.deref-in-Block-2.result.now c.deref-in-Block-4.result.now c.in-Block.is c.deref-in-Block.ensures c.deref-in-Block-3.ensures c.deref-in-Block-2.ensures.value c.deref-in-Block-4.ensures.value) (c.block.ensures c.args.phrase.now.place)
 
 pub phrase-for_step-requires : goal.phrase-for_step-requires
 phrase-for_step-requires t c = search (rules, ap size_kind (for_step_at _ c.in-ForStep.turns _ c.in-ForStep.is c.deref-in-ForStep.ensures))

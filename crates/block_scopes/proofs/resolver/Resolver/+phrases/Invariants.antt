@@ -1,6 +1,6 @@
 use Rattle.std.proofs.Common.{suc, ◌+◌, map, drop}
 use Rattle.algolw_tree.specs.Grammar.{phrases_of, links_of, lists_of, actuals_of, items_of, decls_of, bounds_of}
-use Rattle.algolw_tree.specs.View.{tree, link_tree, list_tree, actual_tree, part_tree, item_tree, decl_tree, bound_tree, procedure_tree, optional_tree, applied_tree, relation_tree, assignment_tree, repetition_tree, chain_tree, conditional_tree, case_value_tree, case_do_tree, for_step_tree, for_list_tree, block_tree}
+use Rattle.algolw_tree.specs.View.{tree, link_tree, list_tree, actual_tree, part_tree, item_tree, decl_tree, bound_tree, procedure_tree, optional_tree, applied_tree, relation_tree, assignment_tree, repetition_tree, chain_tree, conditional_tree, case_value_tree, case_do_tree, for_step_tree, for_list_tree}
 use Rattle.algolw_typing.specs.Naming.{phrases_naming, links_naming, lists_naming, actuals_naming, items_naming, bounds_naming, decls_naming}
 use Rattle.block_scopes.specs.Adding.{frame_view}
 use Rattle.block_scopes.proofs.Added.{Left}
@@ -54,7 +54,7 @@ abbrev pub decreases-actual : goal.decreases-actual
 decreases-actual l = size_actual (actual_tree l.actual.now)
 
 abbrev pub decreases-block : goal.decreases-block
-decreases-block l = size_kind (block_tree l.block.now)
+decreases-block l = suc (suc (size_decls (decls_of (map decl_tree l.decls.now)) + size_items (items_of (map item_tree l.items.now))))
 
 abbrev pub decreases-decl : goal.decreases-decl
 decreases-decl l = suc (size_decl (decl_tree l.decl.now))

@@ -1,6 +1,6 @@
 use Rattle.std.proofs.Common.{◌≡◌, ◌+◌, suc, List, [], map, true, refl, sym, ap, subst, ◌∙◌, rules}
 use Rattle.std.specs.Option.{option_map}
-use Rattle.algolw_tree.proofs.Rows.{applied_at, listed_at, listed_is, chain_at, chain_is, relation_at, class_test_at, assignment_at, conditional_at, conditional_is, case_value_at, case_value_is, case_do_at, for_step_at, for_step_is, for_list_at, for_list_is, repetition_at, block_at, actuals_at, array_at}
+use Rattle.algolw_tree.proofs.Rows.{applied_at, listed_at, listed_is, chain_at, chain_is, relation_at, class_test_at, assignment_at, conditional_at, conditional_is, case_value_at, case_value_is, case_do_at, for_step_at, for_step_is, for_list_at, for_list_is, repetition_at, block_parts_at, actuals_at, array_at}
 use Rattle.algolw_tree.proofs.Sizes.{size, size_kind, size_phrases, size_links, size_lists, size_listing, size_actuals, size_actual, size_items, size_bounds, size_decls, size_decl, item_smaller}
 use Rattle.algolw_tree.specs.Grammar.{actuals_of, bounds_of, decls_of, items_of, links_of, lists_of, phrases_of}
 use Rattle.algolw_tree.specs.Tree as Tree
@@ -311,13 +311,13 @@ kind-returns-in-WhileDo t c =
 
 pub kind-block-requires : goal.kind-block-requires
 kind-block-requires t c =
-    let at = block_at _ c.in-Block.block c.deref-in-Block.result.now c.in-Block.is c.deref-in-Block.ensures in
+    let at = block_parts_at _ c.in-Block.block c.deref-in-Block.result.now c.deref-in-Block-3.result.now c.deref-in-Block-2.result.now c.deref-in-Block-4.result.now c.in-Block.is c.deref-in-Block.ensures c.deref-in-Block-3.ensures c.deref-in-Block-2.ensures.value c.deref-in-Block-4.ensures.value in
     let known = numbered_as c.args.self.now _ _ (kind_as c.args.place _ _ c.args.found.now at) c.requires in
     search (rules, ap size_kind at)
 
 pub kind-returns-in-Block : goal.kind-returns-in-Block
 kind-returns-in-Block t c =
-    let at = block_at _ c.in-Block.block c.deref-in-Block.result.now c.in-Block.is c.deref-in-Block.ensures in
+    let at = block_parts_at _ c.in-Block.block c.deref-in-Block.result.now c.deref-in-Block-3.result.now c.deref-in-Block-2.result.now c.deref-in-Block-4.result.now c.in-Block.is c.deref-in-Block.ensures c.deref-in-Block-3.ensures c.deref-in-Block-2.ensures.value c.deref-in-Block-4.ensures.value in
     taken_as c.args.self.now c.args.table.now c.block.new.table (λ made ns. program.kind_view ns made) c.block.result c.block.new.found _ _ (kind_as c.args.place _ _ c.args.found.now at) c.block.ensures
 
 pub applied-actuals-requires : goal.applied-actuals-requires
@@ -583,25 +583,20 @@ for_list-returns t c =
 pub block-decls-requires : goal.block-decls-requires
 block-decls-requires t c =
     let n = c.args.self.now in
-    let known : DeclsNumbered n (decls_taken (decls_of (map decl_tree c.deref.result.now)) c.args.found.now).0 = subst (λ (xs : List Decl). DeclsNumbered n (decls_taken (decls_of (map decl_tree xs)) c.args.found.now).0) (sym c.deref.ensures.value) c.requires.0 in
+    let known : DeclsNumbered n (decls_taken (decls_of (map decl_tree c.args.decls.now)) c.args.found.now).0 = c.requires.0 in
     search rules
 
 pub block-items-requires : goal.block-items-requires
 block-items-requires t c =
     let n = c.args.self.now in
-    let own = c.args.block.now in
-    let left = c.in_ok-decls.ensures.left ∙ ap (λ (xs : List Decl). (decls_taken (decls_of (map decl_tree xs)) c.args.found.now).1) c.deref.ensures.value in
-    let taken = λ (xs : List Item). items_taken (items_of (map item_tree xs)) in
-    let known : ItemsNumbered n (taken c.deref-2.result.now c.decls.new.found).0 = subst (λ xs. ItemsNumbered n (taken xs c.decls.new.found).0) (sym c.deref-2.ensures.value) (asked (ItemsNumbered n) (taken own.items.items) _ c.decls.new.found left c.requires.1) in
+    let taken = items_taken (items_of (map item_tree c.args.items.now)) in
+    let known : ItemsNumbered n (taken c.decls.new.found).0 = asked (ItemsNumbered n) taken _ c.decls.new.found c.in_ok-decls.ensures.left c.requires.1 in
     search rules
 
 pub block-returns : goal.block-returns
 block-returns t c =
     let n = c.args.self.now in
-    let own = c.args.block.now in
-    let at = ap (λ xs. Tree.Block (decls_of (map decl_tree xs)) (items_of (map item_tree own.items.items))) (sym c.deref.ensures.value) ∙ ap (λ xs. Tree.Block (decls_of (map decl_tree c.deref.result.now)) (items_of (map item_tree xs))) (sym c.deref-2.ensures.value) in
-    same_taken n _ _ _ _ _ _ (kind_as nowhere _ _ c.args.found.now at)
-    (taken_two n _ _ _ (λ ns. decls_onto (map (program.decl_view ns) c.in_ok-decls.decls.items) typed.no_decls) (λ ns. items_onto (map (program.item_view ns) c.in_ok-items.items.items) typed.no_items) _ (decls_taken (decls_of (map decl_tree c.deref.result.now))) (items_taken (items_of (map item_tree c.deref-2.result.now))) typed.Block c.args.found.now c.decls.new.found _ (λ sets. block_in (numbers_in n sets) c.in_ok-decls.decls c.in_ok-items.items) c.in_ok-decls.ensures c.in_ok-items.ensures)
+    taken_two n _ _ _ (λ ns. decls_onto (map (program.decl_view ns) c.in_ok-decls.decls.items) typed.no_decls) (λ ns. items_onto (map (program.item_view ns) c.in_ok-items.items.items) typed.no_items) _ (decls_taken (decls_of (map decl_tree c.args.decls.now))) (items_taken (items_of (map item_tree c.args.items.now))) typed.Block c.args.found.now c.decls.new.found _ (λ sets. block_in (numbers_in n sets) c.in_ok-decls.decls c.in_ok-items.items) c.in_ok-decls.ensures c.in_ok-items.ensures
 
 pub list-actuals-requires : goal.list-actuals-requires
 list-actuals-requires t c =

@@ -1,7 +1,7 @@
-use Rattle.std.proofs.Common.{◌+◌, ◌*◌, map, drop}
+use Rattle.std.proofs.Common.{◌+◌, ◌*◌, suc, map, drop}
 use Rattle.algolw_tree.proofs.Sizes.{size, size_kind, size_perhaps, size_phrases, size_links, size_lists, size_listing, size_actuals, size_actual, size_items, size_bounds, size_decls, size_decl}
 use Rattle.algolw_tree.specs.Grammar.{actuals_of, bounds_of, decls_of, items_of, links_of, lists_of, phrases_of}
-use Rattle.algolw_tree.specs.View.{actual_tree, applied_tree, assignment_tree, block_tree, bound_tree, case_do_tree, case_value_tree, chain_tree, class_test_tree, conditional_tree, decl_tree, for_list_tree, for_step_tree, item_tree, kind_tree, labelled_tree, link_tree, list_tree, listed_tree, optional_tree, part_tree, procedure_tree, relation_tree, repetition_tree, tree}
+use Rattle.algolw_tree.specs.View.{actual_tree, applied_tree, assignment_tree, bound_tree, case_do_tree, case_value_tree, chain_tree, class_test_tree, conditional_tree, decl_tree, for_list_tree, for_step_tree, item_tree, kind_tree, labelled_tree, link_tree, list_tree, listed_tree, optional_tree, part_tree, procedure_tree, relation_tree, repetition_tree, tree}
 use Rattle.algolw_typing.specs.ProgramView as program
 use Rattle.block_scopes.proofs.Arms.{size_item}
 use Rattle.program_numbers.specs.Onto.{actuals_onto, bounds_onto, decls_onto, items_onto, links_onto, lists_onto, nodes_onto}
@@ -59,7 +59,7 @@ abbrev pub decreases-repetition : goal.decreases-repetition
 decreases-repetition l = 4 * size_kind (repetition_tree l.repetition.now) + 2
 
 abbrev pub decreases-block : goal.decreases-block
-decreases-block l = 4 * size_kind (block_tree l.block.now) + 2
+decreases-block l = 4 * suc (suc (size_decls (decls_of (map decl_tree l.decls.now)) + size_items (items_of (map item_tree l.items.now)))) + 2
 
 abbrev pub decreases-nodes : goal.decreases-nodes
 decreases-nodes l = 4 * size_phrases (phrases_of (map tree l.phrases.now))

@@ -16,15 +16,15 @@ declared_more : (xs : List Placed) (i : ℕ) (x : Placed) → i < length xs → 
 declared_more xs i x within item =
     declared (take (i + 1) xs) ∙ map_more declares_at xs i x within ∙ ap (λ z. map declares_at (take i xs) ++ declares_at z ∷ []) (sym item) ∙ ap (λ zs. zs ++ declares_at x ∷ []) (sym (declared (take i xs)))
 
-pub number-requires : goal.number-requires
-number-requires c = part_has (λ xs. KnowsDeclared c.args.self.now.names (declare_at xs)) (λ x. has c.args.self.now.names x.1 ≡ true) (λ x xs h. h) c.args.names.now c.loop-name.name-index c.name-item.result c.loop-name-test.true c.name-item.is c.requires
+pub likely_number-number-requires : goal.likely_number-number-requires
+likely_number-number-requires c = part_has (λ xs. KnowsDeclared c.args.self.now.names (declare_at xs)) (λ x. has c.args.self.now.names x.1 ≡ true) (λ x xs h. h) c.args.names.now c.loop-name.name-index c.name-item.result c.loop-name-test.true c.name-item.is c.requires
 
 pub loop-name-preserved : goal.loop-name-preserved
 loop-name-preserved c =
     let n = c.args.self.now in
     let place = c.name-item.result.1 in
     ap (map (target_in n)) c.in_ok-push.ensures.items
-    ∙ map-append (target_in n) c.loop-name.targets.items ((c.number.result, place) ∷ [])
-    ∙ ap (λ ys. ys ++ target_in n (c.number.result, place) ∷ []) c.loop-name.invariant
-    ∙ ap (λ q. declare_at (take c.loop-name.name-index c.args.names.now) ++ (q, place) ∷ []) c.number.ensures.place
+    ∙ map-append (target_in n) c.loop-name.targets.items ((c.likely_number-number.result, place) ∷ [])
+    ∙ ap (λ ys. ys ++ target_in n (c.likely_number-number.result, place) ∷ []) c.loop-name.invariant
+    ∙ ap (λ q. declare_at (take c.loop-name.name-index c.args.names.now) ++ (q, place) ∷ []) c.likely_number-number.ensures.place
     ∙ sym (declared_more c.args.names.now c.loop-name.name-index c.name-item.result c.loop-name-test.true c.name-item.is)

@@ -1,4 +1,0 @@
-use Rattle.job_runner.proofs.deck.compile_phrase.Given as goal
-
-abbrev pub ghost-compile : goal.ghost-compile
-ghost-compile g a = g.x

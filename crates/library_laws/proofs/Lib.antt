@@ -1,0 +1,9 @@
+pub mod Composed
+pub mod RowPlaces
+pub mod Places
+pub mod TreePlaces
+pub mod TokenPlaces
+pub mod SpelledPlaces
+pub mod Same
+pub mod Roots
+pub mod CardPlaces

@@ -1,0 +1,4 @@
+pub mod Jobs
+pub mod Parts
+pub mod Closing
+pub mod Listings

@@ -1,0 +1,9 @@
+pub mod Tests
+pub mod Trees
+pub mod Tokens
+pub mod Spelling
+pub mod Language
+pub mod Naming
+pub mod Typing
+pub mod Phrases
+pub mod Programs

@@ -1,0 +1,4 @@
+pub mod Texts
+pub mod Phrases
+pub mod States
+pub mod Laws

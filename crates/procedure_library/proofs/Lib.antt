@@ -1,0 +1,3 @@
+pub mod MovedTokens
+pub mod Trees
+pub mod Items

@@ -1,0 +1,4 @@
+pub mod Upwards
+pub mod Numbers
+pub mod Fronts
+pub mod Sections
