@@ -1,10 +1,10 @@
 //! Running code: `Desk`, which holds what a run needs, and `run`.
 #![tactic(auto)]
 
-mod arms;
 mod desk;
 mod dump;
 mod running;
+mod spelled_rows;
 
 pub use desk::Desk;
 pub use joined_rows::Outcome;
