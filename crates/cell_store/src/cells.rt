@@ -168,33 +168,29 @@ impl Wide {
     });
 
     /// It becomes the same as another. What is written is what that is, without the room behind it.
+    #[inline(always)]
     pub fn copy_from(&mut self, other: &Wide)
         ensures { self.new ≡ other.now }
     {
         match other {
-            Wide::Str(text) => self.copy_text(text),
-            Wide::Part(part) => self.set_part(part),
-            Wide::Array(array) => self.set_array(array),
             Wide::Thunk(thunk) => self.set_thunk(thunk),
             Wide::Procedure(procedure) => self.set_procedure(procedure),
-            Wide::Bounds(_) => self.copy_whole(other),
+            Wide::Array(array) => self.set_array(array),
+            _ => self.copy_longer(other),
         }
     }
 
-    /// It becomes a string. Out of line: what it takes would else be made ready for names, arrays and procedures too.
+    /// The same of a string, a part or bounds. Out of line: what it takes would else be made ready for names, arrays and
+    /// procedures too.
     #[inline(never)]
-    fn copy_text(&mut self, text: &Text)
-        ensures { self.new ≡ Wide.Str text.now }
-    {
-        self.set_text(text.as_slice());
-    }
-
-    /// It becomes the same as another, copied with all its room.
-    #[inline(never)]
-    fn copy_whole(&mut self, other: &Wide)
+    fn copy_longer(&mut self, other: &Wide)
         ensures { self.new ≡ other.now }
     {
-        *self = *other;
+        match other {
+            Wide::Str(text) => self.set_text(text.as_slice()),
+            Wide::Part(part) => self.set_part(part),
+            _ => *self = *other,
+        }
     }
 
     /// Characters of its string, from a place on, become these. False exactly where it is no string that has so many
@@ -232,7 +228,7 @@ impl Wide {
         ensures { self.new ≡ Wide.Array array.now }
     {
         match self {
-            Wide::Array(own) => *own = *array,
+            Wide::Array(own) => own.copy_from(array),
             _ => self.become_array(array),
         }
     }
@@ -244,7 +240,7 @@ impl Wide {
     {
         match self {
             Wide::Thunk(own) => own.copy_from(thunk),
-            _ => self.become_thunk(thunk),
+            _ => self.become_thunk(*thunk),
         }
     }
 
@@ -255,7 +251,7 @@ impl Wide {
     {
         match self {
             Wide::Procedure(own) => *own = *procedure,
-            _ => self.become_procedure(procedure),
+            _ => self.become_procedure(*procedure),
         }
     }
 
@@ -269,18 +265,18 @@ impl Wide {
 
     /// The same, where it is of another kind: its room is written anew.
     #[inline(never)]
-    fn become_thunk(&mut self, thunk: &Closed)
-        ensures { self.new ≡ Wide.Thunk thunk.now }
+    fn become_thunk(&mut self, thunk: Closed)
+        ensures { self.new ≡ Wide.Thunk thunk }
     {
-        *self = Wide::Thunk(*thunk);
+        *self = Wide::Thunk(thunk);
     }
 
     /// The same, where it is of another kind: its room is written anew.
     #[inline(never)]
-    fn become_procedure(&mut self, procedure: &Procedure)
-        ensures { self.new ≡ Wide.Procedure procedure.now }
+    fn become_procedure(&mut self, procedure: Procedure)
+        ensures { self.new ≡ Wide.Procedure procedure }
     {
-        *self = Wide::Procedure(*procedure);
+        *self = Wide::Procedure(procedure);
     }
 
     /// It becomes a string of these characters.

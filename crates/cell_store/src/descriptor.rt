@@ -69,6 +69,21 @@ impl Descriptor {
         }
     }
 
+    /// It becomes the same as another. Most arrays have one dimension, and the others aren't gone through then.
+    #[inline(always)]
+    pub(crate) fn copy_from(&mut self, other: &Descriptor)
+        ensures { self.new ≡ other.now }
+    {
+        if self.count == 1 && other.count == 1 {
+            self.kind = other.kind;
+            self.dimensions[0] = other.dimensions[0];
+            self.first = other.first;
+            self.total = other.total;
+        } else {
+            *self = *other;
+        }
+    }
+
     /// The type of its elements.
     pub fn kind(&self) -> SimpleType
         ensures { result ≡ self.now.kind }

@@ -131,13 +131,16 @@ impl Shelf {
     }
 
     /// A cell more, which holds this.
+    #[inline(always)]
     #[tactic(auto, using(crate::proofs::CellLines::length_cells, crate::proofs::CellLines::cells_push_wide, crate::proofs::CellLines::beside_push_wide, crate::proofs::CellLines::cells_more, crate::proofs::CellLines::length_set_beside))]
     pub fn push_wide(&mut self, held: &Wide)
         requires { length self.old.cells < self.old.room }
         ensures { self.new ≡ record self.old { cells = self.old.cells ++ a_wide held.now ∷ [] } }
     {
         let at = self.words.len();
-        fill_up(&mut self.beside, at + 1);
+        if at >= self.beside.len() {
+            fill_up(&mut self.beside, at + 1);
+        }
         self.beside[at].copy_from(held);
         self.words.push_reserved(Word::Wide);
     }
@@ -249,7 +252,7 @@ fn is_beside_at(words: &[Word], at: usize) -> bool
 }
 
 /// What stands beside is made as far as so many cells.
-#[inline(always)]
+#[inline(never)]
 fn fill_up(beside: &mut Vec<Wide>, count: usize)
     requires { count ≤ vec_capacity beside.old }
     ensures kept { take (length beside.old.items) beside.new.items ≡ beside.old.items }

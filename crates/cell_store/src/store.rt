@@ -190,6 +190,7 @@ impl Store {
     }
 
     /// A cell more, which holds this. L3 exactly where 32,768 are live.
+    #[inline(always)]
     pub fn push_wide(&mut self, held: &Wide) -> Result<(), Limit>
         ensures answer { result ≡ cells_allowed 1 self.old }
         ensures pushed { OnOk result (self.new ≡ with_cells (a_wide held.now ∷ []) self.old) }

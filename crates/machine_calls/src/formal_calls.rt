@@ -61,6 +61,7 @@ fn procedure_out(store: &Store, source: Source) -> Procedure
 }
 
 /// What stands for a name that stands alone is held: a procedure, a copied actual or an array.
+#[inline(always)]
 pub fn hand_on(state: &mut State, source: Source) -> Held
     ghost was: { Seen × Held }
     requires stands { Stands was.0 state.old }
