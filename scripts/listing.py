@@ -134,18 +134,24 @@ def sections(text):
     return read(text).sections
 
 
+def plain(text):
+    """The text with the monitor's own line ends, and without a line of --board behind it."""
+    lines = text.replace("\r\n", "\n").split("\n")
+    if len(lines) > 2 and lines[-1] == "" and BOARD.fullmatch(lines[-2]):
+        del lines[-2]
+    return "\n".join(lines)
+
+
 class _Upwards:
     """The lines of a listing, of which those above `end` are still to be read."""
 
     def __init__(self, text):
         """Parts the text into lines. Line ends of another system are taken too: no line of a listing holds such a byte."""
-        lines = text.replace("\r\n", "\n").split("\n")
+        lines = plain(text).split("\n")
         if lines == [""]:
             raise Unreadable("it is empty")
         if lines[0] != HEADING:
             raise Unreadable(f"line 1 isn't '{HEADING}'")
-        if len(lines) > 2 and lines[-1] == "" and BOARD.fullmatch(lines[-2]):
-            del lines[-2]
         if lines.pop() != "" or not STRAY.fullmatch(lines[-1]):
             raise Unreadable("it is cut short: its last line isn't 'STRAY CARDS' and a number")
         self.lines = lines

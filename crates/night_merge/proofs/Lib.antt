@@ -1,0 +1,15 @@
+pub mod Written
+pub mod Results
+pub mod Fronts
+pub mod Feeds
+pub mod Plans
+pub mod Successions
+pub mod ClosingLines
+pub mod Chains
+pub mod Settling
+pub mod Numbers
+pub mod Supplying
+pub mod Fetching
+pub mod Chainwise
+pub mod Windows
+pub mod Nights

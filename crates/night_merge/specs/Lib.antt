@@ -1,0 +1,11 @@
+pub mod Texts
+pub mod Writing
+pub mod Plan
+pub mod Reading
+pub mod Entries
+pub mod Closing
+pub mod Parts
+pub mod Supplies
+pub mod Stops
+pub mod Joining
+pub mod Nights

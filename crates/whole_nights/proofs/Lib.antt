@@ -1,0 +1,14 @@
+pub mod PlanTexts
+pub mod Documents
+pub mod SameTexts
+pub mod SameJoins
+pub mod Said
+pub mod NightJoins
+pub mod Shelves
+pub mod Libraries
+pub mod ShareJobs
+pub mod PartCards
+pub mod ChainAccounts
+pub mod Cuts
+pub mod Nights
+pub mod FiledParts

@@ -1,0 +1,5 @@
+use Rattle.whole_nights.proofs.FiledParts.{parts_are_filed as law}
+use Rattle.whole_nights.proofs.laws.parts_are_filed.Goals as goal
+
+pub returns : goal.returns
+returns c = law

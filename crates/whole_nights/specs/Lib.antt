@@ -1,0 +1,4 @@
+pub mod Plans
+pub mod Joining
+pub mod Parts
+pub mod Whole
