@@ -7,7 +7,7 @@ use Rattle.night_merge.specs.declared.plan.Entry.{Entry}
 use Rattle.night_merge.specs.declared.shelf.Part.{Part}
 use Rattle.night_merge.specs.Entries.{count_of}
 use Rattle.night_merge.specs.Parts.{part_at}
-use Rattle.night_merge.specs.Supplies.{HasRests, HasTexts}
+use Rattle.night_merge.specs.Supplies.{HasCounts, HasRests, HasTexts}
 
 -- one behind others is found among these, or is it
 found_by : {A : Type 0} (xs : List A) (x v : A) (k : ℕ) (P : Type 0) → slice_get (xs ++ x ∷ []) k ≡ Some v → (slice_get xs k ≡ Some v → P) → (k ≡ length xs → v ≡ x → P) → P
@@ -30,3 +30,9 @@ pub rests_more : (rests : ℕ → List (List ℕ)) (owns : List (Vec (Bor (List 
 rests_more rests owns own has here = λ chain v e.
     found_by owns own v chain (map (λ r. r.now) v.items ≡ rests chain) e (λ before. has chain v before)
     (λ last same. ap (λ (t : Vec (Bor (List ℕ)) Global). map (λ (r : Bor (List ℕ)). r.now) t.items) same ∙ here ∙ ap rests (sym last))
+
+pub counts_more : (entries : List Entry) (owns : List (Vec (Bor (List ℕ)) Global)) (own : Vec (Bor (List ℕ)) Global) → HasCounts entries owns → length own.items ≡ count_of (length owns) entries
+    → HasCounts entries (owns ++ own ∷ [])
+counts_more entries owns own has here = λ chain v e.
+    found_by owns own v chain (length v.items ≡ count_of chain entries) e (λ before. has chain v before)
+    (λ last same. ap (λ (t : Vec (Bor (List ℕ)) Global). length t.items) same ∙ here ∙ ap (λ (n : ℕ). count_of n entries) (sym last))

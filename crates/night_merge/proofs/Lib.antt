@@ -13,3 +13,4 @@ pub mod Fetching
 pub mod Chainwise
 pub mod Windows
 pub mod Nights
+pub mod Reasons

@@ -29,3 +29,7 @@ AreEnough chains supply entries = (chain : ℕ) → chain < chains → length (s
 abbrev pub HasNext : ℕ → (ℕ → List (List ℕ)) → Entry → Type 0
 HasNext chains supply (Job chain) = (chain < chains) × (0 < length (supply chain))
 HasNext chains supply (Refused flaw name account_name) = ⊤
+
+-- each chain has so many, whatever they are
+abbrev pub HasCounts : List Entry → List (Vec (Bor (List ℕ)) Global) → Type 0
+HasCounts entries owns = (chain : ℕ) (own : Vec (Bor (List ℕ)) Global) → slice_get owns chain ≡ Some own → length own.items ≡ count_of chain entries

@@ -1,4 +1,4 @@
-ghost use Rattle.std.specs.Prelude.{◌≡◌, ◌++◌, ◌≤◌, ◌<◌, ◌+◌, ◌-◌, ◌^◌, ℕ, List, Option, Some, IfOk, IsErrOf, IsSomeAnd, MatchResult, OnOk, length, map};
+ghost use Rattle.std.specs.Prelude.{◌≡◌, ◌++◌, ◌≤◌, ◌<◌, ◌+◌, ◌-◌, ◌^◌, ℕ, List, Option, Some, IfErr, IfOk, IsErrOf, IsSomeAnd, MatchResult, OnOk, length, map};
 ghost use Rattle.std.specs.Io.KnownBytes.{Appends};
 ghost use Rattle.batch_io.specs.Causes.{Rose};
 ghost use Rattle.night_merge.specs.declared.shelf.Part.{Part};
@@ -6,8 +6,8 @@ ghost use Rattle.night_merge.specs.Closing.{HasLeft, HasOwn, IsLower, Settles};
 ghost use Rattle.night_merge.specs.Entries.{AreBelow, count_of, is_below};
 ghost use Rattle.night_merge.specs.Joining.{IsWindow, first_of, joined, left_by, refused_rest, rest_by};
 ghost use Rattle.night_merge.specs.Parts.{IsPart, part_at};
-ghost use Rattle.night_merge.specs.Stops.{IsFair, IsFault};
-ghost use Rattle.night_merge.specs.Supplies.{AreEnough, HasNext, HasRests, HasTexts, Supplies};
+ghost use Rattle.night_merge.specs.Stops.{AgreeBefore, IsFair, IsFault, IsOwn, IsWhy};
+ghost use Rattle.night_merge.specs.Supplies.{AreEnough, HasCounts, HasNext, HasRests, HasTexts, Supplies};
 ghost use Rattle.night_merge.specs.Texts.{chain_lines, numbered};
 ghost use Rattle.night_merge.specs.Writing.{AppendsPrefix};
 
@@ -71,6 +71,10 @@ pub fn write_window<L: Listings, K: Sink>(
         → HasLeft left.old before → IsWindow night.entry.chains night.entry.accounts.now known window.entry.number window.entry.entries.now rests before after
         → MatchResult result (λ _. Appends (K.written sink.old) (K.written sink.new) (joined window.entry.first rests window.entry.entries.now) × HasLeft left.new after)
         (λ stop. AppendsPrefix (K.written sink.old) (K.written sink.new) (joined window.entry.first rests window.entry.entries.now) × IsFair known stop) }
+    ensures why { (known seen : Part → Option (List ℕ)) (rests : ℕ → List (List ℕ)) (before after : ℕ → ℕ) (windows : ℕ) → L.listings listings.old ≡ Some known
+        → (AgreeBefore seen known window.entry.number → HasLeft left.old before)
+        → IsWindow night.entry.chains night.entry.accounts.now seen window.entry.number window.entry.entries.now rests before after
+        → 0 < window.entry.number → window.entry.number ≤ windows → IfErr result (λ stop. IsWhy night.entry.chains windows seen known stop) }
     ensures stays { (known : Part → Option (List ℕ)) → L.listings listings.old ≡ Some known → L.listings listings.new ≡ Some known }
     ensures kept { OnOk result ((L.faults listings.new ≡ L.faults listings.old) × (K.faults sink.new ≡ K.faults sink.old)) }
     ensures read { IsErrOf result Stop.ReadFault → Rose (L.faults listings.old) (L.faults listings.new) }
@@ -155,6 +159,11 @@ fn rests_by_chain<'a>(
     ensures rests { (known : Part → Option (List ℕ)) (rests : ℕ → List (List ℕ)) (before after : ℕ → ℕ) → HasTexts known window.entry.number window.entry.entries.now texts.now
         → HasLeft left.old before → IsWindow night.entry.chains night.entry.accounts.now known window.entry.number window.entry.entries.now rests before after
         → MatchResult result (λ own. HasRests rests own.items × HasLeft left.new after) (λ stop. stop ≡ Stop.NoMemory) }
+    ensures why { (known seen : Part → Option (List ℕ)) (rests : ℕ → List (List ℕ)) (before after : ℕ → ℕ) (windows : ℕ) → HasTexts known window.entry.number window.entry.entries.now texts.now
+        → (AgreeBefore seen known window.entry.number → HasLeft left.old before)
+        → IsWindow night.entry.chains night.entry.accounts.now seen window.entry.number window.entry.entries.now rests before after
+        → 0 < window.entry.number → window.entry.number ≤ windows → IfErr result (λ stop. IsWhy night.entry.chains windows seen known stop) }
+    ensures many { IfOk result (λ own. HasCounts window.entry.entries.now own.items) }
     ensures counted { IfOk result (λ own. length own.items ≡ night.entry.chains) }
     ensures faultless { (IsErrOf result Stop.ReadFault → ⊥) × (IsErrOf result Stop.WriteFault → ⊥) }
 {
@@ -180,6 +189,8 @@ fn rests_in<'a>(
     ensures rests { (rests : List (List ℕ)) (before after : ℕ → ℕ) → length rests ≡ count_of chain window.entry.entries.now → HasOwn night.entry.chains chain left.old before
         → IsLower (length left.old) after before → (0 < count_of chain window.entry.entries.now → IsPart text.now rests (chain_lines night.entry.chains chain before after 0 night.entry.accounts.now))
         → MatchResult result (λ own. (map (λ r. r.now) own.items ≡ rests) × Settles night.entry.chains chain (count_of chain window.entry.entries.now) after left.old left.new) (λ stop. stop ≡ Stop.NoMemory) }
+    ensures own { IfErr result (λ stop. IsOwn (part_at chain window.entry.number) stop) }
+    ensures many { IfOk result (λ own. length own.items ≡ count_of chain window.entry.entries.now) }
     ensures faultless { (IsErrOf result Stop.ReadFault → ⊥) × (IsErrOf result Stop.WriteFault → ⊥) }
 {
     let count = count_of(window.entries, chain);

@@ -2,10 +2,11 @@ use Rattle.std.proofs.Common.{◌≡◌, ℕ, ◌++◌, List, length, refl, ap, 
 use Rattle.night_merge.specs.Closing.{HasLeft}
 use Rattle.night_merge.specs.Nights.{left_in}
 use Rattle.night_merge.specs.Plan.{first_line, lines_behind}
-use Rattle.night_merge.specs.Stops.{stop_unread}
+use Rattle.night_merge.specs.Stops.{IsWhy, stop_unread}
 use Rattle.night_merge.specs.declared.plan.Line.TheVariants.{Night}
 use Rattle.night_merge.specs.declared.stop.Stop.TheVariants.{WriteFault}
 use Rattle.night_merge.proofs.Nights.{chains_are, closing_as, file_as, heading_cut, last_cut, last_on, left_begins, nothing_yet, opened_length, plan_ahead, prefix_so, stopped, windows_begun, windows_of, windows_on, wrote_so}
+use Rattle.night_merge.proofs.Reasons.{fault_why, unread_why}
 use Rattle.night_merge.proofs.Results.{fault_fair, match_map, unread_fair}
 use Rattle.night_merge.proofs.Supplying.{written_back}
 use Rattle.night_merge.proofs.Windows.{first_ends, first_said}
@@ -21,6 +22,8 @@ pub returns-in_default : goal.returns-in_default
 returns-in_default g c = record {
   done = λ plan more known rests left there shelf night. tt;
   cut = λ plan more known rests left there shelf night.
+      absurd (c.in_default.not-Night plan.chains (c.in_ok-chains.ensures.line (Night plan.chains) _ night.few_chains (plan_ahead _ _ plan more c.in_ok-plan.ensures there)).0);
+  why = λ plan more known seen rests left there shelf night.
       absurd (c.in_default.not-Night plan.chains (c.in_ok-chains.ensures.line (Night plan.chains) _ night.few_chains (plan_ahead _ _ plan more c.in_ok-plan.ensures there)).0);
   kept = tt;
   read = λ other. absurd (cc other);
@@ -100,3 +103,42 @@ returns-clause-cut g c = λ plan more known rests left there shelf night.
     let files = file_as c.as_slice-2.result.now (left_in plan left) c.as_slice.result.now plan.accounts (subst H (sym back) wrote.2) long accounts in
     let on = windows_on _ _ _ plan rests (left_in plan left) c.in_ok-write_all.ensures.ok wrote.1 in
     match_map c.close.result _ _ _ _ (λ x any. any) (λ stop cut. (fault_fair known stop cut.0, last_cut _ _ _ _ _ on (prefix_so _ _ _ _ closes cut.1), prefix_so _ _ _ _ files cut.2)) c.close.ensures.cut
+
+-- ---- why it stops
+
+pub returns-in_err-chains-clause-why : goal.returns-in_err-chains-clause-why
+returns-in_err-chains-clause-why g c = λ plan more known seen rests left there shelf night.
+    let bad = c.in_err-chains.ensures.line (Night plan.chains) _ night.few_chains (plan_ahead _ _ plan more c.in_ok-plan.ensures there) in
+    stopped c.from_residual-in_err-chains.result (stop_unread c.in_err-chains.field-0.0) _ c.from_residual-in_err-chains.ensures.1 (unread_why plan.chains (length plan.windows) seen known c.in_err-chains.field-0.0 bad)
+
+pub returns-then-chains-eq0-clause-why : goal.returns-then-chains-eq0-clause-why
+returns-then-chains-eq0-clause-why g c = λ plan more known seen rests left there shelf night.
+    let read = c.in_ok-chains.ensures.line (Night plan.chains) _ night.few_chains (plan_ahead _ _ plan more c.in_ok-plan.ensures there) in
+    let chains : c.in-Night.chains ≡ plan.chains = chains_are c.in-Night.chains plan.chains plan.chains _ c.in-Night.is read.0 refl in
+    absurd (omega (arith, chains, c.if-chains-eq0.true, night.some_chain))
+
+pub returns-in_err-accounts-clause-why : goal.returns-in_err-accounts-clause-why
+returns-in_err-accounts-clause-why g c = λ plan more known seen rests left there shelf night.
+    let read = c.in_ok-chains.ensures.line (Night plan.chains) _ night.few_chains (plan_ahead _ _ plan more c.in_ok-plan.ensures there) in
+    let said = first_said 1 plan.windows plan.stray (lit< tt) night.few_stray in
+    let bad =
+    c.in_err-accounts.ensures.accounts plan.accounts (first_line 1 plan.windows plan.stray) (lines_behind 1 plan.windows plan.stray ++ more) night.opened night.few_accounts said (first_ends 1 plan.windows plan.stray).1 read.1 in
+    stopped c.from_residual-in_err-accounts.result (stop_unread c.in_err-accounts.field-0.0) _ c.from_residual-in_err-accounts.ensures.1 (unread_why plan.chains (length plan.windows) seen known c.in_err-accounts.field-0.0 bad)
+
+pub returns-in_err-stray-clause-why : goal.returns-in_err-stray-clause-why
+returns-in_err-stray-clause-why g c = λ plan more known seen rests left there shelf night.
+    let read = c.in_ok-chains.ensures.line (Night plan.chains) _ night.few_chains (plan_ahead _ _ plan more c.in_ok-plan.ensures there) in
+    let said = first_said 1 plan.windows plan.stray (lit< tt) night.few_stray in
+    let lines =
+    c.in_ok-accounts.ensures.accounts plan.accounts (first_line 1 plan.windows plan.stray) (lines_behind 1 plan.windows plan.stray ++ more) night.opened night.few_accounts said (first_ends 1 plan.windows plan.stray).1 read.1 in
+    let accounts : c.as_slice.result.now ≡ plan.accounts = c.as_slice.ensures.value ∙ lines.0 in
+    let chains : c.in-Night.chains ≡ plan.chains = chains_are c.in-Night.chains plan.chains plan.chains _ c.in-Night.is read.0 refl in
+    let has = left_begins c.as_slice.result.now plan.accounts c.as_mut_slice.result.now (left 1) accounts (c.as_mut_slice.ensures.value ∙ c.in_ok-left.ensures) night.opens in
+    let windows = windows_of c.in-Night.chains plan.chains c.as_slice.result.now plan.accounts seen rests left plan.windows chains accounts night.windows in
+    let Y : ℕ → Type 0 = λ n. IsWhy n (length plan.windows) seen known c.in_err-stray.field-0.0 in
+    stopped c.from_residual-in_err-stray.result c.in_err-stray.field-0.0 _ c.from_residual-in_err-stray.ensures.1
+    (subst Y chains (c.in_err-stray.ensures.why plan.windows plan.stray more known seen rests left night.few_windows night.few_stray lines.1 lines.2 shelf has windows))
+
+pub returns-clause-why : goal.returns-clause-why
+returns-clause-why g c = λ plan more known seen rests left there shelf night.
+    match_map c.close.result _ _ _ _ (λ x any. any) (λ stop cut. fault_why plan.chains (length plan.windows) seen known stop cut.0) c.close.ensures.cut
