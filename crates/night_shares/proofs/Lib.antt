@@ -20,3 +20,4 @@ pub mod LibraryLines
 pub mod PartLimits
 pub mod WindowJobs
 pub mod PlanTexts
+pub mod AccountNumbers

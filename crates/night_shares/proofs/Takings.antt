@@ -51,7 +51,7 @@ module _ (chains : ℕ) (accounts : List Account) (libraries : List ℕ) (jobs :
       let P : Windows → Type 0 = λ w. IsWindow chains libraries (1 + length w.full) w.last new.window in
       record {
         chains_are = chains_same ∙ is.chains_are;
-        accounts_are = ap (λ v. v.items) accounts_same ∙ is.accounts_are;
+        accounts_are = accounts_same ∙ is.accounts_are;
         libraries_are = ap (λ v. v.items) libraries_same ∙ is.libraries_are;
         window_is = subst P (sym (windows_fit (room_behind libraries) jobs job fit)) window;
         stray_is = stray_more ∙ ap (λ (n : ℕ). n + more) is.stray_is;
@@ -67,7 +67,7 @@ module _ (chains : ℕ) (accounts : List Account) (libraries : List ℕ) (jobs :
       let number : 1 + length now.full + 1 ≡ 1 + length (now.full ++ now.last ∷ []) = omega (arith, length-append now.full (now.last ∷ [])) in
       record {
         chains_are = chains_same ∙ is.chains_are;
-        accounts_are = ap (λ v. v.items) accounts_same ∙ is.accounts_are;
+        accounts_are = accounts_same ∙ is.accounts_are;
         libraries_are = ap (λ v. v.items) libraries_same ∙ is.libraries_are;
         window_is = subst P (sym (windows_next (room_behind libraries) jobs job fit)) (subst Q number window);
         stray_is = stray_more ∙ ap (λ (n : ℕ). n + more) is.stray_is;
@@ -166,9 +166,9 @@ module _ (chains : ℕ) (accounts : List Account) (libraries : List ℕ) (jobs :
       ∙ fits_by chains libraries (1 + length now.full) now.last old.window (room_behind libraries) bytes job is.window_is few long)
 
   -- the window with it
-  pub enrolled : (mid new : Cutter) (number : ℕ) (window : List NightJob) (job : NightJob) (lone : JobView) (text : List ℕ) → mid.chains ≡ chains → mid.accounts.items ≡ accounts → mid.libraries.items ≡ libraries
+  pub enrolled : (mid new : Cutter) (number : ℕ) (window : List NightJob) (job : NightJob) (lone : JobView) (text : List ℕ) → mid.chains ≡ chains → mid.accounts ≡ accounts → mid.libraries.items ≡ libraries
       → IsWindow chains libraries number window mid.window → IsBeside accounts job.job lone → job.text ≡ text
-      → (IsWindow mid.chains mid.libraries.items number window mid.window → IsBeside mid.accounts.items job.job lone → job.text ≡ text → IsWindow mid.chains mid.libraries.items number (window ++ job ∷ []) new.window)
+      → (IsWindow mid.chains mid.libraries.items number window mid.window → IsBeside mid.accounts job.job lone → job.text ≡ text → IsWindow mid.chains mid.libraries.items number (window ++ job ∷ []) new.window)
       → IsWindow chains libraries number (window ++ job ∷ []) new.window
   enrolled mid new number window job lone text chains_are accounts_are libraries_are is beside text_is enrol =
       let before = subst (λ (n : ℕ). IsWindow n mid.libraries.items number window mid.window) (sym chains_are) (subst (λ (l : List ℕ). IsWindow chains l number window mid.window) (sym libraries_are) is) in

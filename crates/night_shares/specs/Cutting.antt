@@ -22,7 +22,7 @@ NoneUnread accounts = account_of accounts (codes "?") ≡ None
 -- so many chains, accounts and libraries; these jobs have come, of which those of the last window aren't filed, and so many stray cards
 pub record IsCutter (chains : ℕ) (accounts : List Account) (libraries : List ℕ) (jobs : List NightJob) (stray : ℕ) (cutter : Cutter) : Type 0 where
   pub chains_are : cutter.chains ≡ chains
-  pub accounts_are : cutter.accounts.items ≡ accounts
+  pub accounts_are : cutter.accounts ≡ accounts
   pub libraries_are : cutter.libraries.items ≡ libraries
   pub window_is : IsWindow chains libraries (1 + length (windows_of (room_behind libraries) jobs).full) (windows_of (room_behind libraries) jobs).last cutter.window
   pub stray_is : cutter.stray ≡ stray

@@ -8,6 +8,7 @@ pub mod Reading
 pub mod Stops
 pub mod Endings
 pub mod Chains
+pub mod AccountNumbers
 pub mod Cutting
 pub mod Begun
 pub mod Held

@@ -1,5 +1,4 @@
 ghost use Rattle.std.specs.Prelude.{◌≡◌, ◌≤◌, ◌<◌, ◌*◌, ℕ, IfOk, IfSome, length};
-ghost use Rattle.deck_reader.specs.Batch.{account_of};
 ghost use Rattle.night_shares.specs.Chains.{accounts_of_chain};
 
 use deck_reader::Account;
@@ -36,11 +35,4 @@ pub fn accounts_of_chain(
         }
     }
     Ok(own)
-}
-
-/// The number of the account of this name, from 0.
-pub fn find_account(accounts: &[Account], name: &[u8]) -> Option<usize>
-    ensures { result ≡ account_of accounts.now name.now }
-{
-    accounts.iter().position(|a| a.name.as_slice() == name)
 }

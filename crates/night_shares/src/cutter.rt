@@ -6,10 +6,10 @@ ghost use Rattle.night_shares.specs.Jobs.{NightJob};
 ghost use Rattle.night_shares.specs.Lines.{run_lines, text_of_lines};
 ghost use Rattle.night_shares.specs.Batches.{run_strays};
 
-use crate::chains::find_account;
 use crate::jobs::{job_lines, read_run};
 use crate::libraries::NightFront;
 use crate::lines::MOST_BYTES;
+use crate::payers::Payers;
 use crate::rows::last_row;
 use crate::shelf::{NightFile, Shelf};
 use crate::stop::Stop;
@@ -24,7 +24,7 @@ pub struct Cutter {
     /// How many chains there are.
     pub chains: usize,
     /// The accounts, in order.
-    pub accounts: Vec<Account>,
+    pub accounts: Payers,
     /// The libraries' cards.
     pub libraries: Vec<u8>,
     /// The window that isn't filed yet.
@@ -57,7 +57,7 @@ impl Cutter {
         Ok(Cutter {
             alloc,
             chains,
-            accounts,
+            accounts: Payers::new(accounts)?,
             window: Window::new(alloc, 1, chains)?,
             stray: u64::from(front.stray),
             libraries: front.libraries,
@@ -124,12 +124,12 @@ impl Cutter {
         requires jobs { self.old.window.jobs < 2000 }
         requires bytes { self.old.window.bytes + length lines.now ≤ 4194304 }
         ensures job { (number : ℕ) (jobs : List NightJob) (new : NightJob) → IsWindow self.old.chains self.old.libraries.items number jobs self.old.window →
-            IsBeside self.old.accounts.items new.job job.now → new.text ≡ lines.now →
+            IsBeside self.old.accounts new.job job.now → new.text ≡ lines.now →
             OnOk result (IsWindow self.old.chains self.old.libraries.items number (jobs ++ new ∷ []) self.new.window) }
         ensures alone { KeepsRest self.old self.new }
         ensures number { self.new.window.number ≡ self.old.window.number }
     {
-        match find_account(self.accounts.as_slice(), job.account_name.as_slice()) {
+        match self.accounts.find(&job.account_name) {
             Some(account) => {
                 let chain = account % self.chains;
                 self.window.add(self.libraries.as_slice(), chain, lines)

@@ -12,6 +12,7 @@ mod libraries;
 mod lines;
 mod night;
 mod openings;
+mod payers;
 mod rows;
 mod runs;
 mod shelf;

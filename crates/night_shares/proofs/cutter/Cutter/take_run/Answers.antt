@@ -98,7 +98,7 @@ returns-clause-ok g c = λ accounts libraries jobs stray front number lines befo
           let libraries_same : mid.libraries ≡ old.libraries = ap (λ (s : Cutter). s.libraries) w.self-is ∙ kept.libraries in
           let stray_same : mid.stray ≡ old.stray + run_strays lines = ap (λ (s : Cutter). s.stray) w.self-is ∙ kept.stray ∙ mores in
           let window = subst (λ (s : Cutter). IsWindow chains libraries (1 + length now.full + 1) [] s.window) (sym w.self-is) done.0 in
-          let put = enrolled chains accounts libraries jobs stray mid new (1 + length now.full + 1) [] job lone text chains_same (ap (λ v. v.items) accounts_same ∙ is.accounts_are) (ap (λ v. v.items) libraries_same ∙ is.libraries_are)
+          let put = enrolled chains accounts libraries jobs stray mid new (1 + length now.full + 1) [] job lone text chains_same (accounts_same ∙ is.accounts_are) (ap (λ v. v.items) libraries_same ∙ is.libraries_are)
           window by_it own (c.in_ok-enrol.ensures.job (1 + length now.full + 1) [] job) in (
             cutter_next chains accounts libraries jobs stray old new job (run_strays lines) is fit put (alone.chains ∙ chains_same) (alone.accounts ∙ accounts_same) (alone.libraries ∙ libraries_same) (alone.stray ∙ stray_same),
             subst (λ s. Files before (g.D.Shelf.filed s) (filed_of chains libraries (jobs ++ job ∷ []))) (sym w.shelf-is)
@@ -111,7 +111,7 @@ returns-clause-ok g c = λ accounts libraries jobs stray front number lines befo
           let libraries_same : mid.libraries ≡ old.libraries = ap (λ (s : Cutter). s.libraries) w.self-is in
           let stray_same : mid.stray ≡ old.stray + run_strays lines = ap (λ (s : Cutter). s.stray) w.self-is ∙ mores in
           let window = subst (λ (s : Cutter). IsWindow chains libraries (1 + length now.full) now.last s.window) (sym w.self-is) is.window_is in
-          let put = enrolled chains accounts libraries jobs stray mid new (1 + length now.full) now.last job lone text chains_same (ap (λ v. v.items) accounts_same ∙ is.accounts_are) (ap (λ v. v.items) libraries_same ∙ is.libraries_are)
+          let put = enrolled chains accounts libraries jobs stray mid new (1 + length now.full) now.last job lone text chains_same (accounts_same ∙ is.accounts_are) (ap (λ v. v.items) libraries_same ∙ is.libraries_are)
           window by_it own (c.in_ok-enrol.ensures.job (1 + length now.full) now.last job) in (
             cutter_fit chains accounts libraries jobs stray old new job (run_strays lines) is fit put (alone.chains ∙ chains_same) (alone.accounts ∙ accounts_same) (alone.libraries ∙ libraries_same) (alone.stray ∙ stray_same),
             subst (λ s. Files before (g.D.Shelf.filed s) (filed_of chains libraries (jobs ++ job ∷ []))) (sym w.shelf-is)
