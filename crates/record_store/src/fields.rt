@@ -1,4 +1,4 @@
-ghost use Rattle.std.specs.Prelude.{◌≡◌, ◌≤◌, ◌<◌, ◌+◌, ◌++◌, ℕ, [], None, Some, IfOk, length, replicate, take, drop, slice_index_or, slice_set, vec_capacity};
+ghost use Rattle.std.specs.Prelude.{◌≡◌, ◌≤◌, ◌<◌, ◌+◌, ◌++◌, ℕ, [], None, Some, IfOk, IfSome, length, replicate, take, drop, slice_index_or, slice_set, vec_capacity};
 
 use std::alloc::{AllocError, Global};
 use std::marker::Model;
@@ -93,6 +93,52 @@ impl Fields {
             Value::Reference(record) => Slot::Reference(record),
         };
         self.slots[place] = slot;
+    }
+
+    /// The INTEGER that the field at a place holds, where it holds one.
+    #[inline]
+    #[tactic(auto, using(crate::proofs::Values::within_slots))]
+    pub(crate) fn integer_at(&self, place: usize) -> Option<i32>
+        requires { place < length self.now }
+        ensures { IfSome result (λ n. slice_index_or self.now place None ≡ Some (Value.Integer n)) }
+    {
+        match self.slots[place] {
+            Slot::Integer(number) => Some(number),
+            _ => None,
+        }
+    }
+
+    /// The reference that the field at a place holds, where it holds one.
+    #[inline]
+    #[tactic(auto, using(crate::proofs::Values::within_slots))]
+    pub(crate) fn reference_at(&self, place: usize) -> Option<Option<RecordId>>
+        requires { place < length self.now }
+        ensures { IfSome result (λ r. slice_index_or self.now place None ≡ Some (Value.Reference r)) }
+    {
+        match self.slots[place] {
+            Slot::Reference(record) => Some(record),
+            _ => None,
+        }
+    }
+
+    /// Sets the field at a place to an INTEGER.
+    #[inline]
+    #[tactic(auto, using(crate::proofs::Values::within_slots))]
+    pub(crate) fn set_integer(&mut self, place: usize, number: i32)
+        requires { place < length self.old }
+        ensures { self.new ≡ slice_set self.old place (Some (Value.Integer number)) }
+    {
+        self.slots[place] = Slot::Integer(number);
+    }
+
+    /// Sets the field at a place to a record, or NULL.
+    #[inline]
+    #[tactic(auto, using(crate::proofs::Values::within_slots))]
+    pub(crate) fn set_reference(&mut self, place: usize, reference: Option<RecordId>)
+        requires { place < length self.old }
+        ensures { self.new ≡ slice_set self.old place (Some (Value.Reference reference)) }
+    {
+        self.slots[place] = Slot::Reference(reference);
     }
 
     /// Makes so many fields from a place on undefined.

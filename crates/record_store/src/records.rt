@@ -157,6 +157,46 @@ impl Records {
         self.fields.at(place as usize)
     }
 
+    /// The INTEGER that the field at a place among the fields of all records holds, where it holds one.
+    #[inline]
+    pub fn integer_at(&self, place: u32) -> Option<i32>
+        requires { place < length (all_fields self.now) }
+        ensures { IfSome result (λ n. slice_index_or (all_fields self.now) place None ≡ Some (Value.Integer n)) }
+    {
+        self.fields.integer_at(place as usize)
+    }
+
+    /// The record, or NULL, that the field at a place among the fields of all records holds, where it holds one.
+    #[inline]
+    pub fn reference_at(&self, place: u32) -> Option<Option<RecordId>>
+        requires { place < length (all_fields self.now) }
+        ensures { IfSome result (λ r. slice_index_or (all_fields self.now) place None ≡ Some (Value.Reference r)) }
+    {
+        self.fields.reference_at(place as usize)
+    }
+
+    /// Sets the field at a place among the fields of all records to an INTEGER, and nothing else.
+    #[inline]
+    pub fn set_integer_at(&mut self, place: u32, number: i32)
+        requires { place < length (all_fields self.old) }
+        ensures fields { all_fields self.new
+            ≡ slice_set (all_fields self.old) place (Some (Value.Integer number)) }
+        ensures shapes { shapes self.new ≡ shapes self.old }
+    {
+        self.fields.set_integer(place as usize, number);
+    }
+
+    /// Sets the field at a place among the fields of all records to a record or NULL, and nothing else.
+    #[inline]
+    pub fn set_reference_at(&mut self, place: u32, reference: Option<RecordId>)
+        requires { place < length (all_fields self.old) }
+        ensures fields { all_fields self.new
+            ≡ slice_set (all_fields self.old) place (Some (Value.Reference reference)) }
+        ensures shapes { shapes self.new ≡ shapes self.old }
+    {
+        self.fields.set_reference(place as usize, reference);
+    }
+
     /// Sets the field at a place among the fields of all records, and nothing else.
     #[inline]
     pub fn set_field_at(&mut self, place: u32, value: Value)
