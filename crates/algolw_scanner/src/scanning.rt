@@ -43,6 +43,7 @@ fn is_end(kind: &TokenKind) -> bool
 }
 
 /// Keeps the token behind the others, unless it is a name directly after END.
+#[inline(always)]
 fn keep(
     alloc: Global,
     tokens: &mut Vec<KeptToken>,

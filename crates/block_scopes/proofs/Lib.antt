@@ -1,5 +1,3 @@
-pub mod Added
-pub mod Arms
 pub mod PlaceOrder
 pub mod StableSorts
 pub mod Standards

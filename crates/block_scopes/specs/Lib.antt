@@ -1,5 +1,2 @@
-pub mod Adding
-pub mod ClassView
-pub mod Parts
-pub mod Resolution
+pub mod FrameView
 pub mod Standards

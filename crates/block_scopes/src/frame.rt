@@ -1,8 +1,8 @@
-ghost use Rattle.std.specs.Prelude.{◌≡◌, IfOk};
-ghost use Rattle.algolw_typing.specs.Naming.{inside, of_procedure};
-ghost use Rattle.block_scopes.specs.Adding.{frame_view};
+ghost use Rattle.std.specs.Prelude.{◌≡◌, ◌+◌, IfOk};
+ghost use Rattle.algolw_typing.specs.Naming.{inside, of_procedure, outermost, standard_names};
+ghost use Rattle.block_scopes.specs.FrameView.{frame_view};
 
-use name_scopes::Scope;
+use algolw_tree::STANDARD;
 use std::alloc::AllocError;
 
 /// Where the next names are declared.
@@ -15,11 +15,22 @@ pub struct Frame {
 }
 
 impl Frame {
-    /// Inside a scope.
-    pub fn inside(self, scope: &Scope) -> Result<Frame, AllocError>
-        ensures { IfOk result (λ frame. frame_view frame ≡ inside (frame_view self) scope.now) }
+    /// Inside the scope of the standard names.
+    pub fn of_program() -> Frame
+        ensures { frame_view result ≡ inside outermost standard_names }
     {
-        let Ok(count) = u32::try_from(scope.len()) else {
+        Frame {
+            level: 0,
+            slot: STANDARD.len() as u32,
+        }
+    }
+
+    /// Inside a scope of so many names.
+    pub(crate) fn inside(self, count: usize) -> Result<Frame, AllocError>
+        ensures level { IfOk result (λ frame. frame.level ≡ self.level) }
+        ensures slot { IfOk result (λ frame. frame.slot ≡ self.slot + count) }
+    {
+        let Ok(count) = u32::try_from(count) else {
             return Err(AllocError);
         };
         let slot = self.slot.checked_add(count).ok_or(AllocError)?;

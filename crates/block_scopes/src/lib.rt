@@ -1,16 +1,13 @@
-//! The names that a program declares, and its record classes.
+//! Where names are declared: the frame of each, and the standard names, which stand around each program. And what was found of
+//! a program, in order of place.
 #![tactic(auto)]
 
-mod blocks;
-mod classes;
 mod frame;
-mod names;
+mod noting;
 mod order;
-mod phrases;
-mod resolver;
-mod scopes;
 mod standard;
 
-pub use classes::{Field, FoundClass};
-pub use order::sort_faults;
-pub use scopes::{Scopes, resolve};
+pub use frame::Frame;
+pub use noting::{note_control, note_names};
+pub use order::{sort_classes, sort_faults, sort_names};
+pub use standard::note_standard;

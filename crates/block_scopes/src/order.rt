@@ -1,11 +1,11 @@
 ghost use Rattle.std.specs.Prelude.{◌≡◌, OnOk, map};
 ghost use Rattle.algolw_typing.specs.Faults.{in_order};
 ghost use Rattle.algolw_typing.specs.Programs.{by_place};
-ghost use Rattle.block_scopes.specs.ClassView.{class_view};
+ghost use Rattle.typed_findings.specs.ClassView.{class_view};
 
-use crate::classes::FoundClass;
 use algolw_tree::NameInfo;
 use std::alloc::AllocError;
+use typed_findings::FoundClass;
 use value_ops::Diagnostic;
 
 /// Puts names in order of place.

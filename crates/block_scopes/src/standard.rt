@@ -9,7 +9,7 @@ use std::alloc::AllocError;
 use value_ops::{Name, Place};
 
 /// Notes the standard names, which stand in no procedure, and makes room for as many more.
-pub fn add_standard(found: &mut Vec<NameInfo>) -> Result<(), AllocError>
+pub fn note_standard(found: &mut Vec<NameInfo>) -> Result<(), AllocError>
     ensures { OnOk result (found.new.items ≡ found.old.items ++ infos outermost standard_names) }
 {
     found.reserve(2 * STANDARD.len())?;

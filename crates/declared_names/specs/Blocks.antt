@@ -2,8 +2,10 @@
 use Rattle.std.specs.Prelude.{◌≡◌, ◌++◌, List, [], map}
 use Rattle.value_ops.specs.declared.places.Diagnostic.{Diagnostic}
 use Rattle.algolw_tree.specs.Tree as tree
+use Rattle.algolw_typing.specs.Naming.{Naming}
 use Rattle.algolw_typing.specs.Scopes.{Scopes}
 use Rattle.algolw_typing.specs.Typing.{BoundsOut, DeclOut, typed_bounds}
+use Rattle.typed_findings.specs.ClassView.{class_view}
 use Rattle.typed_findings.specs.Findings.{Found, finding_view, found_of_bounds, found_of_decl}
 use Rattle.typed_findings.specs.declared.findings.Log.{Log}
 use Rattle.declared_names.specs.declared.blocks.Bounds.{Bounds}
@@ -18,6 +20,10 @@ bounds_found o = record { inside = o.inside; findings = found_of_bounds o.bounds
 
 abbrev pub bounds_view : Bounds → BoundsFound
 bounds_view b = record { inside = b.faults.now; findings = map finding_view b.findings.now }
+
+-- the names and the record classes in them
+abbrev pub bounds_notes : Bounds → Naming
+bounds_notes b = record { names = b.names.now; classes = map class_view b.classes.now }
 
 -- of the bounds of a declaration, which none but an array's has
 abbrev pub decl_bounds : Scopes → tree.Decl → BoundsFound

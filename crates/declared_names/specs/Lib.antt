@@ -1,6 +1,7 @@
 pub mod KnownView
 pub mod KnownHeld
 pub mod KnownPaths
+pub mod NamesAlong
 pub mod PathSizes
 pub mod Seconds
 pub mod Standards

@@ -9,18 +9,22 @@ ghost use Rattle.algolw_typing.specs.Scopes as scopes;
 ghost use Rattle.algolw_typing.specs.Typing as rules;
 ghost use Rattle.algolw_typing.specs.Verdicts as verdicts;
 ghost use Rattle.typing_rules.specs.View as view;
-ghost use Rattle.declared_names.specs.Blocks.{bounds_found, bounds_view, decl_bounds, DeclFound};
+ghost use Rattle.algolw_typing.specs.Naming.{class_naming, nothing};
+ghost use Rattle.typed_findings.specs.Noted.{Notes};
+ghost use Rattle.declared_names.specs.Blocks.{bounds_found, bounds_notes, bounds_view, decl_bounds, DeclFound};
+ghost use Rattle.declared_names.specs.NamesAlong.{names_along};
 
+use crate::classes::note_class;
 use crate::declarations::{
     declare_alike, declare_class, declare_names, dimension_fault, formal_faults, formal_types,
     good, group_faults, log_groups, log_type, result_faults, result_type, spec_faults, spec_type,
 };
 use crate::known::{Declared, Facts, KnownScope};
 use crate::path::KnownPath;
-use algolw_tree::{ClassDecl, Decl, Item, Names, ProcDecl, Spelling, TypeSpec};
+use algolw_tree::{ClassDecl, Decl, Item, NameInfo, Names, ProcDecl, Spelling, TypeSpec};
 use bumpalo::Bump;
 use std::alloc::{AllocError, Global};
-use typed_findings::{Finding, Log};
+use typed_findings::{Finding, FoundClass, Log};
 use typing_rules::{Meaning, NoType, Reading, Verdict, bound_row};
 use value_ops::{Diagnostic, Place};
 
@@ -31,15 +35,22 @@ pub struct Bounds<'a> {
     pub faults: &'a [Diagnostic],
     /// The findings of the phrases in them.
     pub findings: &'a [Finding<'a>],
+    /// What is declared in them.
+    pub names: &'a [NameInfo],
+    /// The record classes in them.
+    pub classes: &'a [FoundClass<'a>],
 }
 
 /// The bounds of what is no array.
 pub fn no_bounds<'a>() -> Bounds<'a>
-    ensures { bounds_view result ≡ bounds_found rules.no_more_bounds }
+    ensures found { bounds_view result ≡ bounds_found rules.no_more_bounds }
+    ensures notes { bounds_notes result ≡ nothing }
 {
     Bounds {
         faults: &[],
         findings: &[],
+        names: &[],
+        classes: &[],
     }
 }
 
@@ -284,14 +295,15 @@ pub fn simple<'a>(
     spec: &TypeSpec,
     log: &mut Log<'a>,
 ) -> Result<(), AllocError>
-    ensures { (xs : List Placed) → OnOk result (DeclFound log.old log.new
+    ensures found { (xs : List Placed) → OnOk result (DeclFound log.old log.new
         (rules.simple_out path.now (spec_tree spec.now) xs)) }
+    ensures notes { OnOk result (Notes log.old log.new nothing) }
 {
     spec_faults(path, spec, &mut log.faults)?;
     log_type(arena, path, spec, log)
 }
 
-/// Adds the faults and the findings of arrays of so many dimensions, with these bounds.
+/// Adds the faults and the findings of arrays of so many dimensions, with these bounds, and what is noted in them.
 pub fn array<'a>(
     arena: &'a Bump,
     path: &KnownPath<'_, '_, 'a>,
@@ -301,28 +313,35 @@ pub fn array<'a>(
     bounds: Bounds<'a>,
     log: &mut Log<'a>,
 ) -> Result<(), AllocError>
-    ensures { (o : rules.BoundsOut) → bounds_view bounds.entry ≡ bounds_found o
+    ensures found { (o : rules.BoundsOut) → bounds_view bounds.entry ≡ bounds_found o
         → OnOk result (DeclFound log.old log.new
         (rules.array_out path.now (spec_tree spec.now) names.now.items dimensions o)) }
+    ensures notes { OnOk result (Notes log.old log.new (bounds_notes bounds.entry)) }
 {
     spec_faults(path, spec, &mut log.faults)?;
     dimension_fault(names, dimensions, &mut log.faults)?;
     log.faults.extend_from_slice(bounds.faults)?;
     log_type(arena, path, spec, log)?;
     log.findings.extend_from_slice(bounds.findings)?;
+    log.names.extend_from_slice(bounds.names)?;
+    log.classes.extend_from_slice(bounds.classes)?;
     Ok(())
 }
 
-/// Adds the faults and the findings of a record class.
+/// Adds the faults and the findings of a record class, and notes it.
 pub fn class<'a>(
+    alloc: Global,
     arena: &'a Bump,
     path: &KnownPath<'_, '_, 'a>,
     class: &ClassDecl,
     log: &mut Log<'a>,
 ) -> Result<(), AllocError>
-    ensures { OnOk result (DeclFound log.old log.new
+    ensures found { OnOk result (DeclFound log.old log.new
         (rules.class_out path.now (class_tree class.now))) }
+    ensures notes { OnOk result (Notes log.old log.new
+        (class_naming (names_along path.now) (class_tree class.now))) }
 {
     group_faults(path, class, &mut log.faults)?;
-    log_groups(arena, path, class, log)
+    log_groups(arena, path, class, log)?;
+    note_class(alloc, arena, path, class, &mut log.classes)
 }

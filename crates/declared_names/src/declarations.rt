@@ -8,6 +8,8 @@ ghost use Rattle.algolw_typing.specs.Verdicts.{diagnostic};
 ghost use Rattle.typing_rules.specs.View.{classes_of, value_type};
 ghost use Rattle.typing_rules.specs.MeaningView as view;
 ghost use Rattle.typed_findings.specs.Findings.{as_type, finding_view, formals_found, groups_found};
+ghost use Rattle.algolw_typing.specs.Naming.{nothing};
+ghost use Rattle.typed_findings.specs.Noted.{Notes};
 ghost use Rattle.declared_names.specs.KnownView.{alike, facts_view};
 
 use crate::known::{Declared, Facts, KnownScope};
@@ -372,6 +374,7 @@ pub(crate) fn log_type<'a>(
     ensures findings { OnOk result (map finding_view log.new.findings.items
         ≡ map finding_view log.old.findings.items
         ++ as_type (Some (rules.spec_type path.now (spec_tree spec.now))) ∷ []) }
+    ensures notes { OnOk result (Notes log.old log.new nothing) }
 {
     let found_type = spec_type(arena, path, spec)?;
     log.add(Finding::of_type(Some(found_type)))
@@ -388,6 +391,7 @@ pub(crate) fn log_formals<'a>(
     ensures findings { OnOk result (map finding_view log.new.findings.items
         ≡ map finding_view log.old.findings.items
         ++ formals_found (typed_formals path.now (map formal_tree formals.now))) }
+    ensures notes { OnOk result (Notes log.old log.new nothing) }
 {
     for formal in formals {
         let found_type = result_type(arena, path, &formal.spec)?;
@@ -422,6 +426,7 @@ pub(crate) fn log_groups<'a>(
     ensures findings { OnOk result (map finding_view log.new.findings.items
         ≡ map finding_view log.old.findings.items
         ++ groups_found (typed_groups path.now (class_tree class.now).groups)) }
+    ensures notes { OnOk result (Notes log.old log.new nothing) }
 {
     for (spec, _) in &class.groups {
         log_type(arena, path, spec, log)?;

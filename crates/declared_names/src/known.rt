@@ -6,6 +6,8 @@ ghost use Rattle.algolw_typing.specs.Typing as rules;
 ghost use Rattle.typing_rules.specs.MeaningView as view;
 ghost use Rattle.declared_names.specs.KnownView.{entry_of, entry_with, facts_view, known_view};
 ghost use Rattle.declared_names.specs.Seconds.{second_fault};
+ghost use Rattle.algolw_typing.specs.Naming.{placed_of};
+ghost use Rattle.name_scopes.specs.Firsts.{lent};
 ghost use Rattle.name_scopes.specs.Marks.{mark_of};
 
 use algolw_tree::Spelling;
@@ -146,6 +148,13 @@ impl<'t, 'a> KnownScope<'t, 'a> {
                 Some(known_at(*place, facts))
             }
         }
+    }
+
+    /// The names that it declares.
+    pub fn names(&self) -> &[&'t (Spelling, Place)]
+        ensures { lent result.now ≡ placed_of self.now }
+    {
+        self.names.names()
     }
 
     /// How many names it declares.

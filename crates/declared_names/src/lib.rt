@@ -2,6 +2,7 @@
 #![tactic(auto)]
 
 mod blocks;
+mod classes;
 mod declarations;
 mod innermost;
 mod known;

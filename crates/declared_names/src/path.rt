@@ -1,9 +1,9 @@
-ghost use Rattle.std.specs.Prelude.{◌≡◌, ◌∷◌, ◌<◌, ◌≤◌, ℕ, List, IfSome, suc, length};
+ghost use Rattle.std.specs.Prelude.{◌≡◌, ◌∷◌, suc, length};
 ghost use Rattle.std.specs.Option.{option_map};
 ghost use Rattle.algolw_typing.specs.Names.{declared};
 ghost use Rattle.algolw_typing.specs.Scopes as scopes;
 ghost use Rattle.name_scopes.specs.Marks.{mark_of};
-ghost use Rattle.name_scopes.specs.Nearest.{Nearest, kept_or};
+ghost use Rattle.name_scopes.specs.Nearest.{Nearest};
 ghost use Rattle.declared_names.specs.KnownPaths.{known_of};
 ghost use Rattle.declared_names.specs.KnownView.{entry_of};
 ghost use Rattle.declared_names.specs.Standards.{standard_path};
@@ -96,27 +96,16 @@ impl<'s, 't, 'a> KnownPath<'s, 't, 'a> {
     fn nearest(&'s self) -> EachMark<Option<&'s KnownPath<'s, 't, 'a>>>
         ensures { Nearest standard_path self.now 64 (suc (length self.now)) result.each }
     {
-        let mut each = [None; MARKS];
+        let Some((own, _)) = self.scopes else {
+            return self.nearest;
+        };
+        let mut each = self.nearest.each;
         for mark in 0..MARKS {
-            each[mark] = self.nearest_with(mark);
+            if own.has_mark(mark) {
+                each[mark] = Some(self);
+            }
         }
         EachMark::of(each)
-    }
-
-    /// Where a name with this mark is looked for along this path.
-    fn nearest_with(&'s self, mark: usize) -> Option<&'s KnownPath<'s, 't, 'a>>
-        requires { mark < 64 }
-        ensures alike { (x : List ℕ) → mark_of x ≡ mark → declared (kept_or standard_path result) x ≡ declared self.now x }
-        ensures fewer { IfSome result (λ path. length path.now ≤ length self.now) }
-    {
-        let Some((own, _)) = self.scopes else {
-            return None;
-        };
-        if own.has_mark(mark) {
-            return Some(self);
-        }
-        let nearest = &self.nearest.each[..];
-        nearest[mark]
     }
 
     /// The declaration that a name has here.

@@ -6,6 +6,8 @@ ghost use Rattle.algolw_typing.specs.Verdicts as verdicts;
 ghost use Rattle.typing_rules.specs.View as view;
 ghost use Rattle.algolw_typing.specs.Typing.{typed_formals};
 ghost use Rattle.typed_findings.specs.Findings.{as_type, finding_view, formals_found};
+ghost use Rattle.algolw_typing.specs.Naming.{nothing};
+ghost use Rattle.typed_findings.specs.Noted.{Notes};
 ghost use Rattle.declared_names.specs.Heads.{IsHead, verdict_of};
 
 use crate::declarations::{formal_faults, log_formals, result_faults, result_type};
@@ -41,6 +43,7 @@ pub fn read_head<'a>(
         ≡ map finding_view log.old.findings.items
         ++ as_type (scopes.result_type path.now (option_map spec_tree value_type.now))
         ∷ formals_found (typed_formals path.now (map formal_tree formals.now))) }
+    ensures notes { OnOk result (Notes log.old log.new nothing) }
     ensures head { IfOk result (λ h. IsHead h path.now (option_map spec_tree value_type.now)) }
 {
     let before = log.faults.len();

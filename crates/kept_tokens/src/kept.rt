@@ -61,6 +61,7 @@ impl Model for KeptToken {
 
 impl KeptToken {
     /// Keeps this token.
+    #[inline(always)]
     pub fn new(alloc: Global, token: Token) -> Result<KeptToken, AllocError>
         ensures { IfOk result (λ kept. kept ≡ token) }
     {

@@ -1,7 +1,7 @@
 -- Where among names the first of each stands.
 use Rattle.std.proofs.Common.{◌≡◌, ℕ, zero, suc, ◌+◌, ◌<◌, ◌-◌, Bool, true, false, nat_lt, cond, take, List, [], ◌∷◌, ◌++◌, Option, Some, None, length, get_or, refl, sym, ap, subst, ◌∙◌, arith}
 use Rattle.std.proofs.lemmas.Bool.Decides.{nat_tests}
-use Rattle.std.proofs.lemmas.List.{get_or-map, length-map, map-append}
+use Rattle.std.proofs.lemmas.List.{get_or-map, length-map, length-take-le, map-append, take_more}
 use Rattle.std.proofs.Math.Seq.{take-append_seam}
 use Rattle.std.proofs.lemmas.Option.{same_Some}
 use Rattle.std.proofs.lemmas.Slice.Eq.{bytes_eq-Decides}
@@ -72,26 +72,15 @@ pub first_stands : (xs : List Placed) (q : List ℕ) (i : ℕ) → first_of xs q
 first_stands [] q i h = cc
 first_stands (x ∷ xs) q i h = found_step (bytes_eq x.0 q) x xs q i (first_of xs q) refl refl (λ j e. first_stands xs q j e) h
 
-none_step : (same : Bool) (x : Placed) (xs : List Placed) (q : List ℕ) (p : Option ℕ) → bytes_eq x.0 q ≡ same → (p ≡ None → place_of (in_scope (scope_of xs) q) ≡ None)
-    → (elim same as (λ b. Option ℕ) [ true ↦ Some 0 | false ↦ option_map suc p ]) ≡ None → place_of (in_scope (scope_of (x ∷ xs)) q) ≡ None
-none_step true x xs q p b f h = cc
-none_step false x xs q None b f h = rw (b, place_of) (f refl)
-none_step false x xs q (Some j) b f h = cc
-
-pub none_first : (xs : List Placed) (q : List ℕ) → first_of xs q ≡ None → place_of (in_scope (scope_of xs) q) ≡ None
-none_first [] q h = refl
-none_first (x ∷ xs) q h = none_step (bytes_eq x.0 q) x xs q (first_of xs q) refl (none_first xs q) h
-
--- where a name stands alone
-pub place_alone : (same : Bool) (x : Placed) (q : List ℕ) → bytes_eq x.0 q ≡ same → place_of (in_scope (scope_of (x ∷ [])) q) ≡ cond same (Some x.1) None
-place_alone true x q b = rw (b, place_of) refl
-place_alone false x q b = rw (b, place_of) refl
-
 -- what was put at the end is taken away
 pub popped : {X : Type 0} (xs ys zs : List X) (x : X) (n : ℕ) → n ≡ length xs + 1 → ys ≡ xs ++ x ∷ [] → zs ≡ take (n - 1) ys → zs ≡ xs
 popped xs ys zs x n long pushed is =
     let before : n - 1 ≡ length xs = omega arith in
     is ∙ ap (λ (m : ℕ). take m ys) before ∙ ap (take (length xs)) pushed ∙ take-append_seam xs (x ∷ [])
+
+-- what stands in front of what was put at the end
+pub front_kept : {X : Type 0} (xs ys : List X) (x : X) (n : ℕ) → n ≡ length xs → ys ≡ xs ++ x ∷ [] → take n ys ≡ xs
+front_kept xs ys x n long pushed = ap (λ (m : ℕ). take m ys) long ∙ ap (take (length xs)) pushed ∙ take-append_seam xs (x ∷ [])
 
 -- a name stands in front of a position where its first does
 abbrev pub in_front : Option ℕ → ℕ → Bool
@@ -133,3 +122,12 @@ lent-length xs = length-map xs (λ (y : Bor Placed). y.now)
 -- the one at a position
 pub lent-at : (xs : List (Bor Placed)) (i : ℕ) (x : Bor Placed) → i < length xs → x ≡ get_or xs i x → get_or (lent xs) i x.now ≡ x.now
 lent-at xs i x w e = get_or-map (λ (y : Bor Placed). y.now) xs i x x.now w ∙ ap (λ (y : Bor Placed). y.now) (sym e)
+
+-- where a name stands first among some first names and the next one
+pub firsts-more : {S : Type 0} (names : List (Bor Placed)) (i : ℕ) (x : Bor Placed) (value : ℕ) (old : HashMap (List ℕ) ℕ S) (held : Option ℕ) (q : List ℕ) → i < length names → x ≡ get_or names i x → Firsts (lent (take i names)) old
+    → value ≡ unwrap_or (get bytes_eq old x.now.0) i → held ≡ cond (bytes_eq x.now.0 q) (Some value) (get bytes_eq old q) → held ≡ first_of (lent (take (i + 1) names)) q
+firsts-more names i x value old held q within item before here is =
+    let long : length (take i names) ≡ i = length-take-le i names (omega arith) in
+    let more : take (i + 1) names ≡ take i names ++ x ∷ [] = take_more names i x within ∙ ap (λ (y : Bor Placed). take i names ++ y ∷ []) (sym item) in
+    first_put (lent (take i names)) x.now i value old held q before (sym (lent-length (take i names) ∙ long)) here is
+    ∙ ap (λ (xs : List Placed). first_of xs q) (sym (lent-push (take i names) (take (i + 1) names) x more))

@@ -1,4 +1,3 @@
 pub mod Firsts
 pub mod Looking
 pub mod Marking
-pub mod Passing

@@ -1,17 +1,12 @@
 -- Names that are looked for by their marks.
-use Rattle.std.proofs.Common.{◌≡◌, ℕ, zero, suc, ◌<◌, ◌≤◌, Bool, true, false, nat_eq, List, [], ◌∷◌, Option, Some, None, length, get_or, slice_set, replicate, refl, sym, ap, subst, ◌∙◌, arith}
+use Rattle.std.proofs.Common.{◌≡◌, ℕ, zero, suc, ◌<◌, ◌≤◌, Bool, true, false, nat_eq, List, [], ◌∷◌, Option, Some, None, length, get_or, slice_set, replicate, refl, sym, ap, subst, ◌∙◌, ◌+◌, add-one, arith}
 use Rattle.std.proofs.lemmas.Bool.Decides.{nat_tests}
 use Rattle.std.proofs.lemmas.List.{get_or-set_same, get_or-set_other, length-set}
 use denote.Ref.{Bor}
 use Rattle.std.specs.Option.{IfSome}
 use Rattle.algolw_typing.specs.Names.{Entry, Path, Scope, declared, in_scope, or_else}
-use Rattle.std.specs.Bool.{⊤}
-use Rattle.algolw_tree.specs.Tree.{Placed}
-use Rattle.algolw_typing.specs.Naming.{place_of, scope_of}
-use Rattle.name_scopes.specs.Firsts.{first_of}
 use Rattle.name_scopes.specs.Marks.{mark_of}
 use Rattle.name_scopes.specs.Nearest.{Nearest, kept_or}
-use Rattle.name_scopes.proofs.Firsts.{none_first}
 
 none_at : {X : Type 0} (n i : ℕ) → get_or {A = Option X} (replicate n None) i None ≡ None
 none_at zero i = refl
@@ -26,12 +21,19 @@ nothing_kept standard marks most = record {
   fewer = λ i p e. let no = sym (none_at 64 i) ∙ e in cc;
 }
 
--- before any mark nothing is asked
-pub begun : {A : Type 0} (standard path : Path A) (most : ℕ) → Nearest standard path 0 most (replicate 64 None)
-begun standard path most = record {
-  each = refl;
-  alike = λ x w. absurd (omega (arith, w));
-  fewer = λ i p e. let no = sym (none_at 64 i) ∙ e in cc;
+kept_alike : {A : Type 0} (same : Bool) (standard path : Path A) (nearest : List (Option (Bor (Path A)))) (m : ℕ) (x : List ℕ) → nat_eq (mark_of x) m ≡ same
+    → (mark_of x < m → declared (kept_or standard (get_or nearest (mark_of x) None)) x ≡ declared path x) → (mark_of x ≡ m → declared (kept_or standard (get_or nearest (mark_of x) None)) x ≡ declared path x)
+    → mark_of x < suc m → declared (kept_or standard (get_or nearest (mark_of x) None)) x ≡ declared path x
+kept_alike true standard path nearest m x s before here l = here (grind (arith, nat_tests))
+kept_alike false standard path nearest m x s before here l = before (grind (arith, nat_tests))
+
+-- one mark more, at which what is kept stays
+one_kept : {A : Type 0} (standard path : Path A) (nearest : List (Option (Bor (Path A)))) (m most : ℕ) → Nearest standard path m most nearest
+    → ((x : List ℕ) → mark_of x ≡ m → declared (kept_or standard (get_or nearest (mark_of x) None)) x ≡ declared path x) → Nearest standard path (suc m) most nearest
+one_kept standard path nearest m most n here = record {
+  each = n.each;
+  alike = λ x l. kept_alike (nat_eq (mark_of x) m) standard path nearest m x refl (n.alike x) (here x) l;
+  fewer = n.fewer;
 }
 
 alike_at : {A : Type 0} (same : Bool) (standard path : Path A) (nearest : List (Option (Bor (Path A)))) (o : Option (Bor (Path A))) (m : ℕ) (x : List ℕ) → nat_eq (mark_of x) m ≡ same → m < length nearest
@@ -60,7 +62,7 @@ short_one None most h q e = cc
 short_one (Some p) most h q e = let same : p ≡ q = cc in omega (arith, subst (λ (r : Bor (Path _)). length r.now ≤ most) same h)
 
 -- one mark more
-pub one_more : {A : Type 0} (standard path : Path A) (nearest : List (Option (Bor (Path A)))) (o : Option (Bor (Path A))) (m most : ℕ) → m < 64 → Nearest standard path m (suc most) nearest
+one_more : {A : Type 0} (standard path : Path A) (nearest : List (Option (Bor (Path A)))) (o : Option (Bor (Path A))) (m most : ℕ) → m < 64 → Nearest standard path m (suc most) nearest
     → ((x : List ℕ) → mark_of x ≡ m → declared (kept_or standard o) x ≡ declared path x) → IfSome o (λ p. length p.now ≤ most) → Nearest standard path (suc m) (suc most) (slice_set nearest m o)
 one_more standard path nearest o m most within n here short =
     let w : m < length nearest = subst (λ (k : ℕ). m < k) (sym n.each) within in
@@ -69,6 +71,43 @@ one_more standard path nearest o m most within n here short =
       alike = λ x l. alike_at (nat_eq (mark_of x) m) standard path nearest o m x refl w (n.alike x) (here x) l;
       fewer = λ i p e. fewer_at (nat_eq i m) nearest o m (suc most) i p refl w n.fewer (short_one o most short) e;
     }
+
+-- The marks before this one are done, and what is kept at the others is what was kept before.
+pub record Going {A : Type 0} (standard path : Path A) (mark most : ℕ) (before nearest : List (Option (Bor (Path A)))) : Type 0 where
+  pub near : Nearest standard path mark most nearest
+  pub left : (i : ℕ) → mark ≤ i → get_or nearest i None ≡ get_or before i None
+
+-- it begins with what is kept behind the innermost scope
+pub going_begun : {A : Type 0} (standard behind path : Path A) (before : List (Option (Bor (Path A)))) (most : ℕ) → Nearest standard behind 64 most before → Going standard path 0 (suc most) before before
+going_begun standard behind path before most n = record {
+  near = record {
+    each = n.each;
+    alike = λ x w. absurd (omega (arith, w));
+    fewer = λ i p e. let less : length p.now < most = n.fewer i p e in omega (arith, less);
+  };
+  left = λ i w. refl;
+}
+
+-- the path itself at one mark more
+pub going_set : {A : Type 0} (standard path : Path A) (before nearest : List (Option (Bor (Path A)))) (self : Bor (Path A)) (m : ℕ) → m < 64 → self.now ≡ path → Going standard path m (suc (length path)) before nearest
+    → Going standard path (m + 1) (suc (length path)) before (slice_set nearest m (Some self))
+going_set standard path before nearest self m within is g =
+    let short : length self.now ≤ length path = omega (arith, ap length is) in
+    record {
+      near = subst (λ (n : ℕ). Nearest standard path n (suc (length path)) (slice_set nearest m (Some self))) (sym (add-one m)) (one_more standard path nearest (Some self) m (length path) within g.near (λ x e. ap (λ (p : Path _). declared p x) is) short);
+      left = λ i w.
+          let other : i ≡ m → ⊥ = λ (at : i ≡ m). omega (arith, w, at) in
+          get_or-set_other nearest m i (Some self) None other ∙ g.left i (omega (arith, w));
+    }
+
+-- what is kept stays at one mark more
+pub going_kept : {A : Type 0} (standard path : Path A) (before nearest : List (Option (Bor (Path A)))) (m most : ℕ) → Going standard path m most before nearest
+    → ((x : List ℕ) → mark_of x ≡ m → get_or before (mark_of x) None ≡ get_or nearest (mark_of x) None → declared (kept_or standard (get_or nearest (mark_of x) None)) x ≡ declared path x)
+    → Going standard path (m + 1) most before nearest
+going_kept standard path before nearest m most g here = record {
+  near = subst (λ (n : ℕ). Nearest standard path n most nearest) (sym (add-one m)) (one_kept standard path nearest m most g.near (λ x e. here x e (sym (g.left (mark_of x) (omega (arith, e))))));
+  left = λ i w. g.left i (omega (arith, w));
+}
 
 -- a scope that doesn't declare a name is passed over
 pub passed_over : {A : Type 0} (scope : Scope A) (path : Path A) (x : List ℕ) → in_scope scope x ≡ None → declared (scope ∷ path) x ≡ declared path x
@@ -81,14 +120,6 @@ found_in scope path x e h = ap (λ (o : Option (Entry _)). or_else o (declared p
 pub alone : {A : Type 0} (o : Option A) → o ≡ or_else o None
 alone None = refl
 alone (Some a) = refl
-
-pub none_placed : (o : Option (Entry ⊤)) → place_of o ≡ None → o ≡ None
-none_placed None h = refl
-none_placed (Some e) h = cc
-
--- a name that stands first nowhere is not in the scope
-pub not_in : (names : List Placed) (x : List ℕ) → first_of names x ≡ None → in_scope (scope_of names) x ≡ None
-not_in names x h = none_placed (in_scope (scope_of names) x) (none_first names x h)
 
 -- the one that is kept at a mark, whatever is read beyond the marks
 pub kept_at : {X : Type 0} (xs : List (Option X)) (i j : ℕ) (o d : Option X) → i < length xs → j ≡ i → o ≡ get_or xs i d → get_or xs j None ≡ o

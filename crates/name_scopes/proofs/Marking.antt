@@ -47,11 +47,3 @@ other_number a b m at other = grind (arith, nat_tests)
 -- a name that hasn't a mark is none that has it
 pub unlike : (x q : List ℕ) (mark : ℕ) → nat_eq (mark_of x) mark ≡ false → mark_of q ≡ mark → bytes_eq x q ≡ false
 unlike x q mark other at = other_mark (bytes_eq x q) x q refl (other_number (mark_of q) (mark_of x) mark at other)
-
-none_alone : (same : Bool) → same ≡ false → (elim same as (λ b. Option ℕ) [ true ↦ Some 0 | false ↦ None ]) ≡ None
-none_alone true h = cc
-none_alone false h = refl
-
--- a name alone, which is none that has a mark
-pub unmarked_alone : (x : Placed) (mark : ℕ) → ((q : List ℕ) → mark_of q ≡ mark → bytes_eq x.0 q ≡ false) → Unmarked (x ∷ []) mark
-unmarked_alone x mark other = record { none = λ q at. none_alone (bytes_eq x.0 q) (other q at) }

@@ -4,10 +4,6 @@ use Rattle.std.proofs.Common.{arith, refl}
 use denote.Ref.{Bor}
 use denote.Param.Weighed.{most}
 use Rattle.algolw_typing.specs.Names.{Path}
-use Rattle.algolw_typing.specs.Naming.{NamePath}
-use Rattle.name_scopes.specs.Paths.{path_of, IsPath}
-use Rattle.name_scopes.specs.declared.innermost.Innermost.{Innermost}
-use Rattle.name_scopes.specs.declared.path.ScopePath.TheDeep.{deep-ScopePath}
 
 -- no path that is kept weighs more than so much
 pub most_within : {A : Type 0} (μ : Option (Bor (Path A)) → ℕ) (xs : List (Option (Bor (Path A)))) (n : ℕ) → μ None ≤ n → ((p : Bor (Path A)) → length p.now < n → μ (Some p) ≤ n)
@@ -21,8 +17,3 @@ most_within μ (Some q ∷ xs) n z s h =
 
 pub two : (a b n : ℕ) → a ≤ n → b ≤ n → max a b ≤ n
 two a b n p q = omega (arith, p, q)
-
-pub sizes_fall : (scopes : Option (Innermost × Bor NamePath)) (nearest : List (Option (Bor NamePath))) → IsPath scopes nearest
-    → deep-ScopePath (record { scopes = scopes; nearest = record { each = nearest } }) ≤ length (path_of scopes)
-sizes_fall None nearest h = two _ _ _ (omega arith) (two _ _ _ (two _ _ _ (most_within _ nearest _ (omega arith) (λ p l. omega (arith, l)) h.fewer) (omega arith)) (omega arith))
-sizes_fall (Some p) nearest h = two _ _ _ (omega arith) (two _ _ _ (two _ _ _ (most_within _ nearest _ (omega arith) (λ q l. omega (arith, l)) h.fewer) (omega arith)) (omega arith))

@@ -1,13 +1,9 @@
-//! Scopes in which a name is found fast: which declaration each name means along them.
+//! Scopes in which a name is found fast, and the marks by which most scopes are passed over.
 #![tactic(auto)]
 
-mod innermost;
 mod key;
 mod marks;
-mod path;
 mod scope;
-mod standard;
 
 pub use marks::{EachMark, MARKS, is_marked, mark_of};
-pub use path::ScopePath;
 pub use scope::Scope;

@@ -1,8 +1,9 @@
-ghost use Rattle.std.specs.Prelude.{◌≡◌, ◌<◌, ◌∷◌, [], ◌++◌, OnErr, OnOk, false, length, take, slice_index_or};
+ghost use Rattle.std.specs.Prelude.{◌≡◌, ◌<◌, ◌≤◌, ◌∷◌, [], ◌++◌, IfOk, List, OnErr, OnOk, false, length, take, slice_index_or};
 ghost use Rattle.std.specs.Option.{is_some};
 ghost use Rattle.algolw_typing.specs.Names.{in_scope};
-ghost use Rattle.algolw_typing.specs.Naming.{scope_of, place_of};
-ghost use Rattle.name_scopes.specs.Firsts.{first_of, lent};
+ghost use Rattle.algolw_typing.specs.Naming.{scope_of};
+ghost use Rattle.algolw_tree.specs.Tree.{Placed};
+ghost use Rattle.name_scopes.specs.Firsts.{Firsts, FirstsOf, first_of, lent};
 ghost use Rattle.name_scopes.specs.Marks.{mark_of, Unmarked};
 
 use crate::key::Key;
@@ -18,11 +19,14 @@ use value_ops::Place;
 #[derive(Drop)]
 pub struct Scope<'t> {
     names: Vec<&'t (Spelling, Place)>,
-    /// Where among the names each stands first.
-    first: HashMap<Key<'t>, u32>,
+    /// Where among the names each stands first; `None` of few names, among which one is found by looking at each.
+    first: Option<HashMap<Key<'t>, u32>>,
     /// Which marks they have.
     marks: [bool; MARKS],
 }
+
+/// How many names are few.
+const FEW: usize = 8;
 
 impl<'t> Model for Scope<'t> {
     ghost use Rattle.std.specs.Prelude.{List};
@@ -30,12 +34,12 @@ impl<'t> Model for Scope<'t> {
 
     ghost Value = { List Placed };
 
-    ghost use Rattle.name_scopes.specs.Firsts.{Firsts, lent};
+    ghost use Rattle.name_scopes.specs.Firsts.{FirstsOf, lent};
     ghost use Rattle.name_scopes.specs.Marks.{Marked};
 
     ghost view = { λ s. lent s.names.items };
 
-    ghost invariant = { λ s. Firsts (lent s.names.items) s.first × Marked (lent s.names.items) s.marks };
+    ghost invariant = { λ s. FirstsOf (lent s.names.items) s.first × Marked (lent s.names.items) s.marks };
 }
 
 impl<'t> Scope<'t> {
@@ -45,7 +49,7 @@ impl<'t> Scope<'t> {
     {
         Scope {
             names: Vec::new(alloc),
-            first: HashMap::new(alloc),
+            first: None,
             marks: [false; MARKS],
         }
     }
@@ -60,11 +64,10 @@ impl<'t> Scope<'t> {
         };
         self.names.push(declared)?;
         let (name, _) = declared;
-        let Ok(first) = self.first.entry(Key::new(name)) else {
+        if let Err(error) = note(&mut self.first, &self.names, declared, position) {
             self.names.pop();
-            return Err(AllocError);
-        };
-        first.or_insert(position);
+            return Err(error);
+        }
         self.marks[mark_of(name.as_slice())] = true;
         Ok(())
     }
@@ -103,7 +106,10 @@ impl<'t> Scope<'t> {
     pub fn find(&self, name: &Spelling) -> Option<u32>
         ensures { result ≡ first_of self.now name.now }
     {
-        self.first.get(&Key::new(name)).copied()
+        match &self.first {
+            Some(first) => first.get(&Key::new(name)).copied(),
+            None => first_among(&self.names, name),
+        }
     }
 
     /// Where among its names the first one of a name with this mark stands.
@@ -127,18 +133,59 @@ impl<'t> Scope<'t> {
             None => false,
         }
     }
+}
 
-    /// The place of the first declaration of a name with this mark.
-    pub fn declared(&self, name: &Spelling, mark: usize) -> Option<Place>
-        requires { mark ≡ mark_of name.now }
-        ensures { result ≡ place_of (in_scope (scope_of self.now) name.now) }
-    {
-        match self.find_marked(name, mark) {
-            None => None,
-            Some(position) => {
-                let (_, place) = self.name_at(position as usize);
-                Some(*place)
+/// Notes the newest of these names, which stands at this position.
+fn note<'t>(
+    first: &mut Option<HashMap<Key<'t>, u32>>,
+    names: &Vec<&'t (Spelling, Place)>,
+    declared: &'t (Spelling, Place),
+    position: u32,
+) -> Result<(), AllocError>
+    ghost before: { List Placed }
+    requires held { FirstsOf before first.old }
+    requires at { position ≡ length before }
+    requires newest { lent names.now.items ≡ before ++ declared.now ∷ [] }
+    ensures noted { OnOk result (FirstsOf (lent names.now.items) first.new) }
+    ensures kept { OnErr result (FirstsOf before first.new) }
+{
+    match first {
+        Some(first) => {
+            let (name, _) = declared;
+            first.entry(Key::new(name))?.or_insert(position);
+        }
+        None => {
+            if names.len() > FEW {
+                *first = Some(firsts_of(names)?);
             }
         }
     }
+    Ok(())
+}
+
+/// Where among these names each stands first.
+fn firsts_of<'t>(names: &Vec<&'t (Spelling, Place)>) -> Result<HashMap<Key<'t>, u32>, AllocError>
+    requires { length names.now.items < 4294967295 }
+    ensures { IfOk result (λ first. Firsts (lent names.now.items) first) }
+{
+    let mut first = HashMap::new(*names.allocator());
+    for (position, declared) in names.iter().enumerate() {
+        let (name, _) = *declared;
+        first.entry(Key::new(name))?.or_insert(position as u32);
+    }
+    Ok(first)
+}
+
+/// Where among few names the first one of a name stands.
+fn first_among(names: &[&(Spelling, Place)], name: &Spelling) -> Option<u32>
+    requires { length names.now ≤ 8 }
+    ensures { result ≡ first_of (lent names.now) name.now }
+{
+    for (position, declared) in names.iter().enumerate() {
+        let (other, _) = *declared;
+        if other.as_slice() == name.as_slice() {
+            return Some(position as u32);
+        }
+    }
+    None
 }

@@ -7,7 +7,6 @@ use Rattle.value_ops.specs.declared.places.Place.{Place}
 use Rattle.algolw_tree.specs.declared.phrases.Bound.{Bound}
 use Rattle.algolw_tree.specs.declared.phrases.Decl.{Decl}
 use Rattle.algolw_tree.specs.declared.phrases.Item.{Item}
-use Rattle.algolw_tree.specs.declared.phrases.Labelled.{Labelled}
 use Rattle.algolw_tree.specs.Grammar.{bounds_of, decls_of, items_of}
 use Rattle.algolw_tree.specs.Tree as tree
 use Rattle.algolw_tree.specs.View.{tree as phrase_tree, bound_tree, decl_tree, item_tree}

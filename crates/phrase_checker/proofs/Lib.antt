@@ -5,6 +5,7 @@ pub mod Givens
 pub mod Growth
 pub mod InBoxes
 pub mod ListSteps
+pub mod Noting
 pub mod OtherKinds
 pub mod PlainParts
 pub mod Steps

@@ -8,7 +8,6 @@ use Rattle.algolw_tree.specs.Tree as tree
 use Rattle.algolw_tree.specs.View.{part_tree}
 use Rattle.algolw_tree.specs.declared.phrases.Part as part_in
 use Rattle.algolw_tree.specs.declared.phrases.Part.{Part}
-use Rattle.algolw_tree.specs.declared.phrases.Phrase.{Phrase}
 use Rattle.algolw_tree.specs.declared.phrases.RelOp.{RelOp}
 use Rattle.algolw_typing.specs.Names.{Entry, declared}
 use Rattle.algolw_typing.specs.Rows.{case_do_row, case_value_row, for_row, is_row, relation_row, while_row}

@@ -9,11 +9,17 @@ ghost use Rattle.algolw_typing.specs.Typing as rules;
 ghost use Rattle.algolw_typing.specs.Typing.{typed_bounds, typed_decl, typed_decls, typed_items, typed_kind, typed_phrase};
 ghost use Rattle.algolw_typing.specs.Verdicts.{Good};
 ghost use Rattle.typing_rules.specs.View as view;
-ghost use Rattle.declared_names.specs.Blocks.{DeclFound, bounds_view, decl_bounds, each_bounds};
+ghost use Rattle.declared_names.specs.Blocks.{DeclFound, bounds_notes, bounds_view, decl_bounds, each_bounds};
+ghost use Rattle.algolw_typing.specs.Naming.{NamePath, and, bounds_naming, decl_naming, decls_naming, items_naming, naming};
+ghost use Rattle.block_scopes.specs.FrameView.{frame_view};
+ghost use Rattle.declared_names.specs.NamesAlong.{names_along};
+ghost use Rattle.typed_findings.specs.Noted.{Notes};
+ghost use Rattle.phrase_checker.specs.NotedParts.{block_naming, bound_notes, each_notes, item_naming};
 ghost use Rattle.phrase_checker.specs.Checked.{BoundChecked, BoundsChecked, Checked, DeclsChecked, EndChecked, ItemChecked, ItemsChecked};
 
 use crate::checker::Checker;
 use algolw_tree::{Bound, Decl, Item, Phrase, ProcDecl};
+use block_scopes::{Frame, note_names};
 use bumpalo::Bump;
 use bumpalo::collections::into_bump_slice;
 use declared_names::{
@@ -31,22 +37,32 @@ impl<'a> Checker<'a> {
     #[cycle(phrases)]
     pub(crate) fn block<'t>(
         &mut self,
+        frame: Frame,
         path: &KnownPath<'_, 't, 'a>,
         decls: &'t [Decl],
         items: &'t [Item],
     ) -> Result<Verdict<'a>, AllocError>
-        ensures { (place first : Place) → IfOk result (λ v. Checked self.old.log self.new.log (view.verdict v)
+        ensures found { (place first : Place) → IfOk result (λ v. Checked self.old.log self.new.log (view.verdict v)
             (typed_kind path.now place first (kinds.Block (decls_of (map decl_tree decls.now)) (items_of (map item_tree items.now))))) }
+        ensures notes { OnOk result (Notes self.old.log self.new.log
+            (block_naming (frame_view frame) (names_along path.now) (decls_of (map decl_tree decls.now)) (items_of (map item_tree items.now)))) }
     {
         let names = names_of_block(self.alloc, decls, items)?;
         twice(&names, &mut self.log.faults)?;
+        let within = note_names(&mut self.log.names, frame, names.names())?;
         let mut scope = KnownScope::new(self.alloc);
-        let bounds = self.meanings(path, &KnownPath::inner(&names, &*path), decls, &mut scope)?;
+        let bounds = self.meanings(
+            within,
+            path,
+            &KnownPath::inner(&names, &*path),
+            decls,
+            &mut scope,
+        )?;
         drop(names);
         declare_labels(items, &mut scope)?;
         let inner = KnownPath::inner(&scope, &*path);
-        self.decls(&inner, decls, bounds)?;
-        self.items(&inner, items)
+        self.decls(within, &inner, decls, bounds)?;
+        self.items(within, &inner, items)
     }
 
     /// Checks the declarations of a block as far as their names ask for it: what the block declares, and the bounds of each
@@ -54,6 +70,7 @@ impl<'a> Checker<'a> {
     #[cycle(phrases)]
     fn meanings<'t>(
         &mut self,
+        frame: Frame,
         path: &KnownPath<'_, 't, 'a>,
         names: &KnownPath<'_, 't, 'a>,
         decls: &'t [Decl],
@@ -63,10 +80,11 @@ impl<'a> Checker<'a> {
         ensures scope { OnOk result (scope.new ≡ scope.old ++
             rules.meanings path.now names.now (decls_of (map decl_tree decls.now))) }
         ensures bounds { IfOk result (λ bs. map bounds_view bs.now ≡ each_bounds path.now (map decl_tree decls.now)) }
+        ensures notes { IfOk result (λ bs. map bounds_notes bs.now ≡ each_notes (frame_view frame) (names_along path.now) (map decl_tree decls.now)) }
     {
         let mut found = Vec::with_capacity(self.arena, decls.len())?;
         for decl in decls {
-            let bounds = self.decl_bounds(path, decl)?;
+            let bounds = self.decl_bounds(frame, path, decl)?;
             declare(self.alloc, self.arena, names, decl, bounds, scope)?;
             found.push(bounds)?;
         }
@@ -77,17 +95,19 @@ impl<'a> Checker<'a> {
     #[cycle(phrases)]
     fn decl_bounds<'t>(
         &mut self,
+        frame: Frame,
         path: &KnownPath<'_, 't, 'a>,
         decl: &'t Decl,
     ) -> Result<Bounds<'a>, AllocError>
         ensures log { OnOk result (self.new.log ≡ self.old.log) }
         ensures bounds { IfOk result (λ b. bounds_view b ≡ decl_bounds path.now (decl_tree decl.now)) }
+        ensures notes { IfOk result (λ b. bounds_notes b ≡ bound_notes (frame_view frame) (names_along path.now) (decl_tree decl.now)) }
     {
         let Decl::Array(_, _, bounds) = decl else {
             return Ok(no_bounds());
         };
         let before = std::mem::replace(&mut self.log, Log::new(self.alloc));
-        self.bounds(path, bounds)?;
+        self.bounds(frame, path, bounds)?;
         let found = std::mem::replace(&mut self.log, before);
         kept(self.arena, &found)
     }
@@ -96,14 +116,17 @@ impl<'a> Checker<'a> {
     #[cycle(phrases)]
     fn bounds<'t>(
         &mut self,
+        frame: Frame,
         path: &KnownPath<'_, 't, 'a>,
         bounds: &'t [Bound],
     ) -> Result<(), AllocError>
-        ensures { OnOk result (BoundsChecked self.old.log self.new.log
+        ensures found { OnOk result (BoundsChecked self.old.log self.new.log
             (typed_bounds path.now (bounds_of (map bound_tree bounds.now)))) }
+        ensures notes { OnOk result (Notes self.old.log self.new.log
+            (bounds_naming (frame_view frame) (names_along path.now) (bounds_of (map bound_tree bounds.now)))) }
     {
         for bound in bounds {
-            self.bound(path, bound)?;
+            self.bound(frame, path, bound)?;
         }
         Ok(())
     }
@@ -112,14 +135,17 @@ impl<'a> Checker<'a> {
     #[cycle(phrases)]
     fn bound<'t>(
         &mut self,
+        frame: Frame,
         path: &KnownPath<'_, 't, 'a>,
         bound: &'t Bound,
     ) -> Result<(), AllocError>
-        ensures { OnOk result (BoundChecked self.old.log self.new.log bound.now.place
+        ensures found { OnOk result (BoundChecked self.old.log self.new.log bound.now.place
             (typed_phrase path.now (tree bound.now.lower))
             (typed_phrase path.now (tree bound.now.upper))) }
+        ensures notes { OnOk result (Notes self.old.log self.new.log
+            (and (naming (frame_view frame) (names_along path.now) (tree bound.now.lower)) (naming (frame_view frame) (names_along path.now) (tree bound.now.upper)))) }
     {
-        let (lower, upper) = self.pair(path, &bound.lower, &bound.upper)?;
+        let (lower, upper) = self.pair(frame, path, &bound.lower, &bound.upper)?;
         self.note(bound_verdict(bound.place, lower, upper))
     }
 
@@ -127,17 +153,21 @@ impl<'a> Checker<'a> {
     #[cycle(phrases)]
     fn decls<'t>(
         &mut self,
+        frame: Frame,
         path: &KnownPath<'_, 't, 'a>,
         decls: &'t [Decl],
         bounds: &[Bounds<'a>],
     ) -> Result<(), AllocError>
         requires { length bounds.now ≡ length decls.now }
-        ensures { (around : Scopes) → map bounds_view bounds.now ≡ each_bounds around (map decl_tree decls.now) →
+        ensures found { (around : Scopes) → map bounds_view bounds.now ≡ each_bounds around (map decl_tree decls.now) →
             OnOk result (DeclsChecked self.old.log self.new.log
             (typed_decls around path.now (decls_of (map decl_tree decls.now)))) }
+        ensures notes { (around : NamePath) → map bounds_notes bounds.now ≡ each_notes (frame_view frame) around (map decl_tree decls.now) →
+            OnOk result (Notes self.old.log self.new.log
+            (decls_naming (frame_view frame) around (names_along path.now) (decls_of (map decl_tree decls.now)))) }
     {
         for (position, decl) in decls.iter().enumerate() {
-            self.decl(path, decl, bounds[position])?;
+            self.decl(frame, path, decl, bounds[position])?;
         }
         Ok(())
     }
@@ -146,12 +176,16 @@ impl<'a> Checker<'a> {
     #[cycle(phrases)]
     fn decl<'t>(
         &mut self,
+        frame: Frame,
         path: &KnownPath<'_, 't, 'a>,
         decl: &'t Decl,
         bounds: Bounds<'a>,
     ) -> Result<(), AllocError>
-        ensures { (around : Scopes) → bounds_view bounds.entry ≡ decl_bounds around (decl_tree decl.now) →
+        ensures found { (around : Scopes) → bounds_view bounds.entry ≡ decl_bounds around (decl_tree decl.now) →
             OnOk result (DeclFound self.old.log self.new.log (typed_decl around path.now (decl_tree decl.now))) }
+        ensures notes { (around : NamePath) → bounds_notes bounds.entry ≡ bound_notes (frame_view frame) around (decl_tree decl.now) →
+            OnOk result (Notes self.old.log self.new.log
+            (decl_naming (frame_view frame) around (names_along path.now) (decl_tree decl.now))) }
     {
         match decl {
             Decl::Simple(spec, _) => simple(self.arena, path, spec, &mut self.log),
@@ -164,8 +198,8 @@ impl<'a> Checker<'a> {
                 bounds,
                 &mut self.log,
             ),
-            Decl::Proc(procedure) => self.procedure(path, procedure),
-            Decl::Class(declared) => class(self.arena, path, declared, &mut self.log),
+            Decl::Proc(procedure) => self.procedure(frame, path, procedure),
+            Decl::Class(declared) => class(self.alloc, self.arena, path, declared, &mut self.log),
         }
     }
 
@@ -173,11 +207,14 @@ impl<'a> Checker<'a> {
     #[cycle(phrases)]
     fn procedure<'t>(
         &mut self,
+        frame: Frame,
         path: &KnownPath<'_, 't, 'a>,
         declared: &'t ProcDecl,
     ) -> Result<(), AllocError>
-        ensures { (around : Scopes) → OnOk result (DeclFound self.old.log self.new.log
+        ensures found { (around : Scopes) → OnOk result (DeclFound self.old.log self.new.log
             (typed_decl around path.now (procedure_tree declared.now))) }
+        ensures notes { (around : NamePath) → OnOk result (Notes self.old.log self.new.log
+            (decl_naming (frame_view frame) around (names_along path.now) (procedure_tree declared.now))) }
     {
         let head = read_head(
             self.arena,
@@ -188,7 +225,8 @@ impl<'a> Checker<'a> {
         )?;
         let formals = formal_scope(self.alloc, self.arena, path, &declared.formals)?;
         twice(&formals, &mut self.log.faults)?;
-        let body = self.phrase(&KnownPath::inner(&formals, &*path), &declared.body)?;
+        let within = note_names(&mut self.log.names, frame.of_procedure()?, formals.names())?;
+        let body = self.phrase(within, &KnownPath::inner(&formals, &*path), &declared.body)?;
         self.note(procedure_verdict(declared.place, head, body))
     }
 
@@ -196,16 +234,19 @@ impl<'a> Checker<'a> {
     #[cycle(phrases)]
     fn items<'t>(
         &mut self,
+        frame: Frame,
         path: &KnownPath<'_, 't, 'a>,
         items: &'t [Item],
     ) -> Result<Verdict<'a>, AllocError>
-        ensures { IfOk result (λ v. ItemsChecked self.old.log self.new.log (view.verdict v)
+        ensures found { IfOk result (λ v. ItemsChecked self.old.log self.new.log (view.verdict v)
             (typed_items path.now (Good Statement) (items_of (map item_tree items.now)))) }
+        ensures notes { OnOk result (Notes self.old.log self.new.log
+            (items_naming (frame_view frame) (names_along path.now) (items_of (map item_tree items.now)))) }
     {
         let mut verdict = Ok(PhraseType::Statement);
         for (position, item) in items.iter().enumerate() {
             let is_last = position + 1 == items.len();
-            let item = self.item(path, is_last, item)?;
+            let item = self.item(frame, path, is_last, item)?;
             verdict = then_item(verdict, item);
         }
         Ok(verdict)
@@ -215,19 +256,22 @@ impl<'a> Checker<'a> {
     #[cycle(phrases)]
     fn item<'t>(
         &mut self,
+        frame: Frame,
         path: &KnownPath<'_, 't, 'a>,
         is_last: bool,
         item: &'t Item,
     ) -> Result<Verdict<'a>, AllocError>
-        ensures { IfOk result (λ v. ItemChecked path.now is_last self.old.log self.new.log
+        ensures found { IfOk result (λ v. ItemChecked path.now is_last self.old.log self.new.log
             (view.verdict v) (item_tree item.now)) }
+        ensures notes { OnOk result (Notes self.old.log self.new.log
+            (item_naming (frame_view frame) (names_along path.now) (item_tree item.now))) }
     {
         match item {
             Item::Empty(_) => Ok(Ok(PhraseType::Statement)),
-            Item::Plain(phrase) => self.item_phrase(path, is_last, false, phrase),
+            Item::Plain(phrase) => self.item_phrase(frame, path, is_last, false, phrase),
             Item::Labelled(item) => {
                 let is_labelled = has_labels(&item.labels);
-                self.item_phrase(path, is_last, is_labelled, &item.phrase)
+                self.item_phrase(frame, path, is_last, is_labelled, &item.phrase)
             }
         }
     }
@@ -236,15 +280,18 @@ impl<'a> Checker<'a> {
     #[cycle(phrases)]
     fn item_phrase<'t>(
         &mut self,
+        frame: Frame,
         path: &KnownPath<'_, 't, 'a>,
         is_last: bool,
         is_labelled: bool,
         phrase: &'t Phrase,
     ) -> Result<Verdict<'a>, AllocError>
-        ensures { IfOk result (λ v. EndChecked self.old.log self.new.log (view.verdict v) is_last is_labelled
+        ensures found { IfOk result (λ v. EndChecked self.old.log self.new.log (view.verdict v) is_last is_labelled
             phrase.now.first (typed_phrase path.now (tree phrase.now))) }
+        ensures notes { OnOk result (Notes self.old.log self.new.log
+            (naming (frame_view frame) (names_along path.now) (tree phrase.now))) }
     {
-        let found = self.phrase(path, phrase)?;
+        let found = self.phrase(frame, path, phrase)?;
         let verdict = item_verdict(is_last, is_labelled, phrase.first, found);
         self.note(verdict)?;
         Ok(verdict)
@@ -255,8 +302,13 @@ impl<'a> Checker<'a> {
 fn kept<'a>(arena: &'a Bump, found: &Log<'a>) -> Result<Bounds<'a>, AllocError>
     ensures faults { IfOk result (λ bounds. bounds.faults.now ≡ found.now.faults.items) }
     ensures findings { IfOk result (λ bounds. bounds.findings.now ≡ found.now.findings.items) }
+    ensures names { IfOk result (λ bounds. bounds.names.now ≡ found.now.names.items) }
+    ensures classes { IfOk result (λ bounds. bounds.classes.now ≡ found.now.classes.items) }
 {
-    let faults = arena.try_alloc_slice_copy(&found.faults)?;
-    let findings = arena.try_alloc_slice_copy(&found.findings)?;
-    Ok(Bounds { faults, findings })
+    Ok(Bounds {
+        faults: arena.try_alloc_slice_copy(&found.faults)?,
+        findings: arena.try_alloc_slice_copy(&found.findings)?,
+        names: arena.try_alloc_slice_copy(&found.names)?,
+        classes: arena.try_alloc_slice_copy(&found.classes)?,
+    })
 }

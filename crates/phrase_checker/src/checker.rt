@@ -12,9 +12,14 @@ ghost use Rattle.typing_rules.specs.View as view;
 ghost use Rattle.typed_findings.specs.Findings.{own_finding};
 ghost use Rattle.typed_phrases.specs.FoundParts.{all_view, given_view};
 ghost use Rattle.typed_phrases.specs.Prefixes as prefixes;
+ghost use Rattle.algolw_typing.specs.Naming.{and, kind_naming, links_naming, naming, nothing, perhaps_naming, phrases_naming, scope_of};
+ghost use Rattle.block_scopes.specs.FrameView.{frame_view};
+ghost use Rattle.declared_names.specs.NamesAlong.{names_along};
+ghost use Rattle.typed_findings.specs.Noted.{Notes};
 ghost use Rattle.phrase_checker.specs.Checked.{Adds, AssignmentChecked, CasesChecked, Checked, LinksChecked, Noted, PairChecked, PhrasesChecked, RangeChecked, StepChecked, ValueChecked, found_itself};
 
 use algolw_tree::{Assignment, Kind, Link, Part, Phrase, Relation, Repetition, Spelling, Whole};
+use block_scopes::{Frame, note_control};
 use bumpalo::Bump;
 use declared_names::{KnownPath, class_fault};
 use std::alloc::{AllocError, Global};
@@ -48,7 +53,8 @@ pub(crate) struct Assigned<'a> {
 impl<'a> Checker<'a> {
     /// Adds the fault of a verdict.
     pub(crate) fn note(&mut self, verdict: Verdict) -> Result<(), AllocError>
-        ensures { OnOk result (Adds self.old.log self.new.log (fault_of (view.verdict verdict.entry)) []) }
+        ensures found { OnOk result (Adds self.old.log self.new.log (fault_of (view.verdict verdict.entry)) []) }
+        ensures notes { OnOk result (Notes self.old.log self.new.log nothing) }
     {
         if let Err(NoType::Fault(fault)) = verdict {
             self.log.faults.push(fault)?;
@@ -58,8 +64,9 @@ impl<'a> Checker<'a> {
 
     /// Adds what is found by its verdict of a phrase that isn't empty and begins here: its fault, and what it gives.
     fn found(&mut self, first: Place, verdict: Verdict<'a>) -> Result<(), AllocError>
-        ensures { OnOk result (Adds self.old.log self.new.log (fault_of (view.verdict verdict.entry))
+        ensures found { OnOk result (Adds self.old.log self.new.log (fault_of (view.verdict verdict.entry))
             (own_finding first (view.verdict verdict.entry) ∷ [])) }
+        ensures notes { OnOk result (Notes self.old.log self.new.log nothing) }
     {
         self.note(verdict)?;
         self.log.add(Finding::of_phrase(first, verdict))
@@ -71,8 +78,9 @@ impl<'a> Checker<'a> {
         phrase: &Phrase,
         verdict: Verdict<'a>,
     ) -> Result<(), AllocError>
-        ensures { OnOk result (Adds self.old.log self.new.log (fault_of (view.verdict verdict.entry))
+        ensures found { OnOk result (Adds self.old.log self.new.log (fault_of (view.verdict verdict.entry))
             (found_itself (tree phrase.now) (view.verdict verdict.entry))) }
+        ensures notes { OnOk result (Notes self.old.log self.new.log nothing) }
     {
         match phrase.kind {
             Kind::Empty => self.note(verdict),
@@ -83,13 +91,16 @@ impl<'a> Checker<'a> {
     /// Checks a whole program.
     pub(crate) fn root<'t>(
         &mut self,
+        frame: Frame,
         path: &KnownPath<'_, 't, 'a>,
         root: Whole<'t>,
     ) -> Result<Verdict<'a>, AllocError>
-        ensures { IfOk result (λ v. Noted self.old.log self.new.log (view.verdict v)
+        ensures found { IfOk result (λ v. Noted self.old.log self.new.log (view.verdict v)
             (typed_phrase path.now (whole_tree root.entry))) }
+        ensures notes { OnOk result (Notes self.old.log self.new.log
+            (naming (frame_view frame) (names_along path.now) (whole_tree root.entry))) }
     {
-        let verdict = self.block(path, root.decls, root.items)?;
+        let verdict = self.block(frame, path, root.decls, root.items)?;
         self.found(root.first, verdict)?;
         Ok(verdict)
     }
@@ -98,13 +109,16 @@ impl<'a> Checker<'a> {
     #[cycle(phrases)]
     pub(crate) fn phrase<'t>(
         &mut self,
+        frame: Frame,
         path: &KnownPath<'_, 't, 'a>,
         phrase: &'t Phrase,
     ) -> Result<Verdict<'a>, AllocError>
-        ensures { IfOk result (λ v. Noted self.old.log self.new.log (view.verdict v)
+        ensures found { IfOk result (λ v. Noted self.old.log self.new.log (view.verdict v)
             (typed_phrase path.now (tree phrase.now))) }
+        ensures notes { OnOk result (Notes self.old.log self.new.log
+            (naming (frame_view frame) (names_along path.now) (tree phrase.now))) }
     {
-        let verdict = self.inside(path, phrase)?;
+        let verdict = self.inside(frame, path, phrase)?;
         self.conclude(phrase, verdict)?;
         Ok(verdict)
     }
@@ -113,11 +127,14 @@ impl<'a> Checker<'a> {
     #[cycle(phrases)]
     pub(crate) fn inside<'t>(
         &mut self,
+        frame: Frame,
         path: &KnownPath<'_, 't, 'a>,
         phrase: &'t Phrase,
     ) -> Result<Verdict<'a>, AllocError>
-        ensures { IfOk result (λ v. Checked self.old.log self.new.log (view.verdict v)
+        ensures found { IfOk result (λ v. Checked self.old.log self.new.log (view.verdict v)
             (typed_phrase path.now (tree phrase.now))) }
+        ensures notes { OnOk result (Notes self.old.log self.new.log
+            (naming (frame_view frame) (names_along path.now) (tree phrase.now))) }
     {
         let place = phrase.place;
         match &phrase.kind {
@@ -127,28 +144,36 @@ impl<'a> Checker<'a> {
             Kind::Truth(_) => leaf(ValueType::Logical),
             Kind::BitsLit(_) => leaf(ValueType::Bits),
             Kind::Quoted(text) => quoted(text.as_slice()),
-            Kind::Negated(operand) => self.prefixed(path, place, Prefix::Not, operand),
-            Kind::Abs(operand) => self.prefixed(path, place, Prefix::Abs, operand),
+            Kind::Negated(operand) => self.prefixed(frame, path, place, Prefix::Not, operand),
+            Kind::Abs(operand) => self.prefixed(frame, path, place, Prefix::Abs, operand),
             Kind::Signed(minus, operand) => {
-                self.prefixed(path, place, Prefix::Sign(*minus), operand)
+                self.prefixed(frame, path, place, Prefix::Sign(*minus), operand)
             }
-            Kind::Assert(condition) => self.prefixed(path, place, Prefix::Assert, condition),
-            Kind::Chain(chain) => self.chain(path, &chain.first, &chain.links),
-            Kind::Relation(relation) => self.relation(path, place, relation),
+            Kind::Assert(condition) => self.prefixed(frame, path, place, Prefix::Assert, condition),
+            Kind::Chain(chain) => self.chain(frame, path, &chain.first, &chain.links),
+            Kind::Relation(relation) => self.relation(frame, path, place, relation),
             Kind::IfThen(choice) => self.conditional(
+                frame,
                 path,
                 place,
                 &choice.condition,
                 &choice.then,
                 &choice.otherwise,
             ),
-            Kind::CaseValue(case) => self.case_value(path, place, &case.selector, &case.values),
-            Kind::CaseDo(case) => self.case_do(path, place, &case.selector, &case.parts),
-            Kind::WhileDo(repetition) => self.while_do(path, place, repetition),
+            Kind::CaseValue(case) => self.case_value(
+                frame,
+                path,
+                place,
+                &case.selector,
+                &case.values,
+            ),
+            Kind::CaseDo(case) => self.case_do(frame, path, place, &case.selector, &case.parts),
+            Kind::WhileDo(repetition) => self.while_do(frame, path, place, repetition),
             Kind::Goto(name) => self.jump(path, place, name),
-            Kind::IsClass(test) => self.is_class(path, place, &test.reference, &test.class),
-            Kind::Assign(assignment) => self.assign(path, place, assignment),
+            Kind::IsClass(test) => self.is_class(frame, path, place, &test.reference, &test.class),
+            Kind::Assign(assignment) => self.assign(frame, path, place, assignment),
             Kind::ForStep(turns) => self.for_range(
+                frame,
                 path,
                 place,
                 &turns.name,
@@ -158,12 +183,12 @@ impl<'a> Checker<'a> {
                 &turns.body,
             ),
             Kind::ForList(turns) => {
-                self.for_list(path, place, &turns.name, &turns.values, &turns.body)
+                self.for_list(frame, path, place, &turns.name, &turns.values, &turns.body)
             }
             Kind::Named(name) => self.name_alone(path, place, &name.spelling()),
-            Kind::Applied(applied) => self.applied(path, place, applied),
-            Kind::Listed(listed) => self.named(path, place, &listed.name, &listed.lists),
-            Kind::Block(block) => self.block(path, &block.decls, &block.items),
+            Kind::Applied(applied) => self.applied(frame, path, place, applied),
+            Kind::Listed(listed) => self.named(frame, path, place, &listed.name, &listed.lists),
+            Kind::Block(block) => self.block(frame, path, &block.decls, &block.items),
         }
     }
 
@@ -171,15 +196,18 @@ impl<'a> Checker<'a> {
     #[cycle(phrases)]
     pub(crate) fn pair<'t>(
         &mut self,
+        frame: Frame,
         path: &KnownPath<'_, 't, 'a>,
         first: &'t Phrase,
         second: &'t Phrase,
     ) -> Result<(Verdict<'a>, Verdict<'a>), AllocError>
-        ensures { IfOk result (λ both. PairChecked path.now self.old.log self.new.log
+        ensures found { IfOk result (λ both. PairChecked path.now self.old.log self.new.log
             (view.verdict both.0) (view.verdict both.1) (tree first.now) (tree second.now)) }
+        ensures notes { OnOk result (Notes self.old.log self.new.log
+            (and (naming (frame_view frame) (names_along path.now) (tree first.now)) (naming (frame_view frame) (names_along path.now) (tree second.now)))) }
     {
-        let first = self.phrase(path, first)?;
-        let second = self.phrase(path, second)?;
+        let first = self.phrase(frame, path, first)?;
+        let second = self.phrase(frame, path, second)?;
         Ok((first, second))
     }
 
@@ -187,15 +215,18 @@ impl<'a> Checker<'a> {
     #[cycle(phrases)]
     fn prefixed<'t>(
         &mut self,
+        frame: Frame,
         path: &KnownPath<'_, 't, 'a>,
         place: Place,
         prefix: Prefix,
         operand: &'t Phrase,
     ) -> Result<Verdict<'a>, AllocError>
-        ensures { (first : Place) → IfOk result (λ v. Checked self.old.log self.new.log (view.verdict v)
+        ensures found { (first : Place) → IfOk result (λ v. Checked self.old.log self.new.log (view.verdict v)
             (typed_kind path.now place first (prefixes.prefixed prefix (tree operand.now)))) }
+        ensures notes { OnOk result (Notes self.old.log self.new.log
+            (naming (frame_view frame) (names_along path.now) (tree operand.now))) }
     {
-        let operand = self.phrase(path, operand)?;
+        let operand = self.phrase(frame, path, operand)?;
         Ok(prefixed_verdict(place, prefix, operand))
     }
 
@@ -203,14 +234,17 @@ impl<'a> Checker<'a> {
     #[cycle(phrases)]
     fn relation<'t>(
         &mut self,
+        frame: Frame,
         path: &KnownPath<'_, 't, 'a>,
         place: Place,
         comparison: &'t Relation,
     ) -> Result<Verdict<'a>, AllocError>
-        ensures { (first : Place) → IfOk result (λ v. Checked self.old.log self.new.log (view.verdict v)
+        ensures found { (first : Place) → IfOk result (λ v. Checked self.old.log self.new.log (view.verdict v)
             (typed_kind path.now place first (relation_tree comparison.now))) }
+        ensures notes { OnOk result (Notes self.old.log self.new.log
+            (kind_naming (frame_view frame) (names_along path.now) place (relation_tree comparison.now))) }
     {
-        let (left, right) = self.pair(path, &comparison.left, &comparison.right)?;
+        let (left, right) = self.pair(frame, path, &comparison.left, &comparison.right)?;
         Ok(relation_verdict(place, comparison.op, left, right))
     }
 
@@ -218,14 +252,17 @@ impl<'a> Checker<'a> {
     #[cycle(phrases)]
     fn while_do<'t>(
         &mut self,
+        frame: Frame,
         path: &KnownPath<'_, 't, 'a>,
         place: Place,
         repetition: &'t Repetition,
     ) -> Result<Verdict<'a>, AllocError>
-        ensures { (first : Place) → IfOk result (λ v. Checked self.old.log self.new.log (view.verdict v)
+        ensures found { (first : Place) → IfOk result (λ v. Checked self.old.log self.new.log (view.verdict v)
             (typed_kind path.now place first (repetition_tree repetition.now))) }
+        ensures notes { OnOk result (Notes self.old.log self.new.log
+            (kind_naming (frame_view frame) (names_along path.now) place (repetition_tree repetition.now))) }
     {
-        let (condition, body) = self.pair(path, &repetition.condition, &repetition.body)?;
+        let (condition, body) = self.pair(frame, path, &repetition.condition, &repetition.body)?;
         Ok(while_verdict(place, condition, body))
     }
 
@@ -233,20 +270,23 @@ impl<'a> Checker<'a> {
     #[cycle(phrases)]
     fn conditional<'t>(
         &mut self,
+        frame: Frame,
         path: &KnownPath<'_, 't, 'a>,
         place: Place,
         condition: &'t Phrase,
         then: &'t Phrase,
         otherwise: &'t Option<Box<Phrase>>,
     ) -> Result<Verdict<'a>, AllocError>
-        ensures { (first : Place) → IfOk result (λ v. Checked self.old.log self.new.log (view.verdict v)
+        ensures found { (first : Place) → IfOk result (λ v. Checked self.old.log self.new.log (view.verdict v)
             (typed_kind path.now place first (kinds.IfThen (tree condition.now) (tree then.now) (optional_tree otherwise.now)))) }
+        ensures notes { OnOk result (Notes self.old.log self.new.log
+            (kind_naming (frame_view frame) (names_along path.now) place (kinds.IfThen (tree condition.now) (tree then.now) (optional_tree otherwise.now)))) }
     {
-        let (condition, then) = self.pair(path, condition, then)?;
+        let (condition, then) = self.pair(frame, path, condition, then)?;
         let Some(otherwise) = otherwise else {
             return Ok(if_verdict(place, condition, then));
         };
-        let otherwise = self.phrase(path, otherwise)?;
+        let otherwise = self.phrase(frame, path, otherwise)?;
         if_else_verdict(self.arena, place, condition, then, otherwise)
     }
 
@@ -254,31 +294,37 @@ impl<'a> Checker<'a> {
     #[cycle(phrases)]
     fn chain<'t>(
         &mut self,
+        frame: Frame,
         path: &KnownPath<'_, 't, 'a>,
         first: &'t Phrase,
         links: &'t [Link],
     ) -> Result<Verdict<'a>, AllocError>
-        ensures { (place token : Place) → IfOk result (λ v. Checked self.old.log self.new.log (view.verdict v)
+        ensures found { (place token : Place) → IfOk result (λ v. Checked self.old.log self.new.log (view.verdict v)
             (typed_kind path.now place token (kinds.Chain (tree first.now) (links_of (map link_tree links.now))))) }
+        ensures notes { OnOk result (Notes self.old.log self.new.log
+            (and (naming (frame_view frame) (names_along path.now) (tree first.now)) (links_naming (frame_view frame) (names_along path.now) (links_of (map link_tree links.now))))) }
     {
-        let first = self.phrase(path, first)?;
-        self.links(path, noted(first), links)
+        let first = self.phrase(frame, path, first)?;
+        self.links(frame, path, noted(first), links)
     }
 
     /// Checks the links of a chain, behind a front with this verdict.
     #[cycle(phrases)]
     fn links<'t>(
         &mut self,
+        frame: Frame,
         path: &KnownPath<'_, 't, 'a>,
         front: Verdict<'a>,
         links: &'t [Link],
     ) -> Result<Verdict<'a>, AllocError>
-        ensures { IfOk result (λ v. LinksChecked self.old.log self.new.log (view.verdict v)
+        ensures found { IfOk result (λ v. LinksChecked self.old.log self.new.log (view.verdict v)
             (typed_links path.now (view.verdict front.entry) (links_of (map link_tree links.now)))) }
+        ensures notes { OnOk result (Notes self.old.log self.new.log
+            (links_naming (frame_view frame) (names_along path.now) (links_of (map link_tree links.now)))) }
     {
         let mut front = front;
         for link in links {
-            let right = self.phrase(path, &link.right)?;
+            let right = self.phrase(frame, path, &link.right)?;
             front = linked(link.op, link.place, front, right);
         }
         Ok(front)
@@ -288,16 +334,19 @@ impl<'a> Checker<'a> {
     #[cycle(phrases)]
     fn case_value<'t>(
         &mut self,
+        frame: Frame,
         path: &KnownPath<'_, 't, 'a>,
         place: Place,
         subject: &'t Phrase,
         values: &'t [Phrase],
     ) -> Result<Verdict<'a>, AllocError>
-        ensures { (first : Place) → IfOk result (λ v. Checked self.old.log self.new.log (view.verdict v)
+        ensures found { (first : Place) → IfOk result (λ v. Checked self.old.log self.new.log (view.verdict v)
             (typed_kind path.now place first (kinds.CaseValue (tree subject.now) (phrases_of (map tree values.now))))) }
+        ensures notes { OnOk result (Notes self.old.log self.new.log
+            (kind_naming (frame_view frame) (names_along path.now) place (kinds.CaseValue (tree subject.now) (phrases_of (map tree values.now))))) }
     {
-        let subject = self.phrase(path, subject)?;
-        let values = self.phrases(path, values)?;
+        let subject = self.phrase(frame, path, subject)?;
+        let values = self.phrases(frame, path, values)?;
         case_value_verdict(self.arena, place, subject, &values)
     }
 
@@ -305,16 +354,19 @@ impl<'a> Checker<'a> {
     #[cycle(phrases)]
     fn case_do<'t>(
         &mut self,
+        frame: Frame,
         path: &KnownPath<'_, 't, 'a>,
         place: Place,
         subject: &'t Phrase,
         parts: &'t [Part],
     ) -> Result<Verdict<'a>, AllocError>
-        ensures { (first : Place) → IfOk result (λ v. Checked self.old.log self.new.log (view.verdict v)
+        ensures found { (first : Place) → IfOk result (λ v. Checked self.old.log self.new.log (view.verdict v)
             (typed_kind path.now place first (kinds.CaseDo (tree subject.now) (phrases_of (map part_tree parts.now))))) }
+        ensures notes { OnOk result (Notes self.old.log self.new.log
+            (kind_naming (frame_view frame) (names_along path.now) place (kinds.CaseDo (tree subject.now) (phrases_of (map part_tree parts.now))))) }
     {
-        let subject = self.phrase(path, subject)?;
-        let gives = self.cases(path, parts)?;
+        let subject = self.phrase(frame, path, subject)?;
+        let gives = self.cases(frame, path, parts)?;
         Ok(case_do_verdict(place, subject, gives))
     }
 
@@ -322,15 +374,18 @@ impl<'a> Checker<'a> {
     #[cycle(phrases)]
     fn cases<'t>(
         &mut self,
+        frame: Frame,
         path: &KnownPath<'_, 't, 'a>,
         parts: &'t [Part],
     ) -> Result<Option<PhraseType<'a>>, AllocError>
-        ensures { IfOk result (λ gives. CasesChecked self.old.log self.new.log (given_view gives)
+        ensures found { IfOk result (λ gives. CasesChecked self.old.log self.new.log (given_view gives)
             (typed_phrases path.now (phrases_of (map part_tree parts.now)))) }
+        ensures notes { OnOk result (Notes self.old.log self.new.log
+            (phrases_naming (frame_view frame) (names_along path.now) (phrases_of (map part_tree parts.now)))) }
     {
         let mut gives = Some(PhraseType::Statement);
         for part in parts {
-            let statement = self.case(path, part)?;
+            let statement = self.case(frame, path, part)?;
             gives = both_give(gives, statement);
         }
         Ok(gives)
@@ -340,15 +395,18 @@ impl<'a> Checker<'a> {
     #[cycle(phrases)]
     fn case<'t>(
         &mut self,
+        frame: Frame,
         path: &KnownPath<'_, 't, 'a>,
         part: &'t Part,
     ) -> Result<Verdict<'a>, AllocError>
-        ensures { IfOk result (λ v. Noted self.old.log self.new.log (view.verdict v)
+        ensures found { IfOk result (λ v. Noted self.old.log self.new.log (view.verdict v)
             (typed_phrase path.now (part_tree part.now))) }
+        ensures notes { OnOk result (Notes self.old.log self.new.log
+            (naming (frame_view frame) (names_along path.now) (part_tree part.now))) }
     {
         match part {
             Part::Empty(_) => Ok(Ok(PhraseType::Statement)),
-            Part::Phrase(phrase) => self.phrase(path, phrase),
+            Part::Phrase(phrase) => self.phrase(frame, path, phrase),
         }
     }
 
@@ -356,15 +414,18 @@ impl<'a> Checker<'a> {
     #[cycle(phrases)]
     fn phrases<'t>(
         &mut self,
+        frame: Frame,
         path: &KnownPath<'_, 't, 'a>,
         phrases: &'t [Phrase],
     ) -> Result<Phrases<'a>, AllocError>
-        ensures { IfOk result (λ found. PhrasesChecked self.old.log self.new.log (all_view found.gives)
+        ensures found { IfOk result (λ found. PhrasesChecked self.old.log self.new.log (all_view found.gives)
             (typed_phrases path.now (phrases_of (map tree phrases.now)))) }
+        ensures notes { OnOk result (Notes self.old.log self.new.log
+            (phrases_naming (frame_view frame) (names_along path.now) (phrases_of (map tree phrases.now)))) }
     {
         let mut found = Phrases::with_capacity(self.alloc, phrases.len())?;
         for phrase in phrases {
-            let verdict = self.phrase(path, phrase)?;
+            let verdict = self.phrase(frame, path, phrase)?;
             found.add(verdict)?;
         }
         Ok(found)
@@ -374,15 +435,18 @@ impl<'a> Checker<'a> {
     #[cycle(phrases)]
     fn is_class<'t>(
         &mut self,
+        frame: Frame,
         path: &KnownPath<'_, 't, 'a>,
         place: Place,
         operand: &'t Phrase,
         class: &(Spelling, Place),
     ) -> Result<Verdict<'a>, AllocError>
-        ensures { (first : Place) → IfOk result (λ v. Checked self.old.log self.new.log (view.verdict v)
+        ensures found { (first : Place) → IfOk result (λ v. Checked self.old.log self.new.log (view.verdict v)
             (typed_kind path.now place first (kinds.IsClass (tree operand.now) class.now.0 class.now.1))) }
+        ensures notes { OnOk result (Notes self.old.log self.new.log
+            (naming (frame_view frame) (names_along path.now) (tree operand.now))) }
     {
-        let operand = self.phrase(path, operand)?;
+        let operand = self.phrase(frame, path, operand)?;
         class_fault(path, class, &mut self.log.faults)?;
         let target = self.target(path, &class.0)?;
         Ok(is_verdict(place, target, operand))
@@ -392,14 +456,17 @@ impl<'a> Checker<'a> {
     #[cycle(phrases)]
     fn assign<'t>(
         &mut self,
+        frame: Frame,
         path: &KnownPath<'_, 't, 'a>,
         place: Place,
         assignment: &'t Assignment,
     ) -> Result<Verdict<'a>, AllocError>
-        ensures { (first : Place) → IfOk result (λ v. Checked self.old.log self.new.log (view.verdict v)
+        ensures found { (first : Place) → IfOk result (λ v. Checked self.old.log self.new.log (view.verdict v)
             (typed_kind path.now place first (assignment_tree assignment.now))) }
+        ensures notes { OnOk result (Notes self.old.log self.new.log
+            (kind_naming (frame_view frame) (names_along path.now) place (assignment_tree assignment.now))) }
     {
-        let found = self.assignment(path, place, assignment)?;
+        let found = self.assignment(frame, path, place, assignment)?;
         Ok(found.verdict)
     }
 
@@ -407,17 +474,20 @@ impl<'a> Checker<'a> {
     #[cycle(phrases)]
     fn assignment<'t>(
         &mut self,
+        frame: Frame,
         path: &KnownPath<'_, 't, 'a>,
         place: Place,
         assignment: &'t Assignment,
     ) -> Result<Assigned<'a>, AllocError>
-        ensures { (first : Place) → IfOk result (λ a. AssignmentChecked self.old.log self.new.log
+        ensures found { (first : Place) → IfOk result (λ a. AssignmentChecked self.old.log self.new.log
             (view.verdict a.verdict) (given_view a.end)
             (typed_kind path.now place first (assignment_tree assignment.now))) }
+        ensures notes { OnOk result (Notes self.old.log self.new.log
+            (kind_naming (frame_view frame) (names_along path.now) place (assignment_tree assignment.now))) }
     {
         let left = left_of(path, &assignment.target);
-        let target = self.phrase(path, &assignment.target)?;
-        let value = self.value(path, &assignment.value)?;
+        let target = self.phrase(frame, path, &assignment.target)?;
+        let value = self.value(frame, path, &assignment.value)?;
         let end = value.end;
         let verdict = assigned_verdict(place, left, target, value.verdict, end);
         Ok(Assigned { verdict, end })
@@ -427,18 +497,21 @@ impl<'a> Checker<'a> {
     #[cycle(phrases)]
     pub(crate) fn value<'t>(
         &mut self,
+        frame: Frame,
         path: &KnownPath<'_, 't, 'a>,
         phrase: &'t Phrase,
     ) -> Result<Assigned<'a>, AllocError>
-        ensures { IfOk result (λ a. ValueChecked self.old.log self.new.log
+        ensures found { IfOk result (λ a. ValueChecked self.old.log self.new.log
             (view.verdict a.verdict) (given_view a.end) (typed_phrase path.now (tree phrase.now))) }
+        ensures notes { OnOk result (Notes self.old.log self.new.log
+            (naming (frame_view frame) (names_along path.now) (tree phrase.now))) }
     {
         let Kind::Assign(assignment) = &phrase.kind else {
-            let verdict = self.phrase(path, phrase)?;
+            let verdict = self.phrase(frame, path, phrase)?;
             let end = given(verdict);
             return Ok(Assigned { verdict, end });
         };
-        let found = self.assignment(path, phrase.place, assignment)?;
+        let found = self.assignment(frame, path, phrase.place, assignment)?;
         self.note(found.verdict)?;
         self.log.add(Finding::uncounted(found.verdict))?;
         Ok(found)
@@ -448,21 +521,25 @@ impl<'a> Checker<'a> {
     #[cycle(phrases)]
     fn controlled<'t>(
         &mut self,
+        frame: Frame,
         path: &KnownPath<'_, 't, 'a>,
         place: Place,
         name: &'t Spelling,
         body: &'t Phrase,
     ) -> Result<Verdict<'a>, AllocError>
-        ensures { IfOk result (λ v. Noted self.old.log self.new.log (view.verdict v)
+        ensures found { IfOk result (λ v. Noted self.old.log self.new.log (view.verdict v)
             (typed_phrase (scopes.control_scope place name.now ∷ path.now) (tree body.now))) }
+        ensures notes { OnOk result (Notes self.old.log self.new.log
+            (naming (frame_view frame) (scope_of ((name.now, place) ∷ []) ∷ names_along path.now) (tree body.now))) }
     {
-        self.phrase(&KnownPath::control(name, place, &*path), body)
+        self.phrase(frame, &KnownPath::control(name, place, &*path), body)
     }
 
     /// Checks a FOR over a range.
     #[cycle(phrases)]
     fn for_range<'t>(
         &mut self,
+        frame: Frame,
         path: &KnownPath<'_, 't, 'a>,
         place: Place,
         name: &'t Spelling,
@@ -471,11 +548,14 @@ impl<'a> Checker<'a> {
         limit: &'t Phrase,
         body: &'t Phrase,
     ) -> Result<Verdict<'a>, AllocError>
-        ensures { (first : Place) → IfOk result (λ v. Checked self.old.log self.new.log (view.verdict v)
+        ensures found { (first : Place) → IfOk result (λ v. Checked self.old.log self.new.log (view.verdict v)
             (typed_kind path.now place first (kinds.ForStep name.now (tree start.now) (optional_tree step.now) (tree limit.now) (tree body.now)))) }
+        ensures notes { OnOk result (Notes self.old.log self.new.log
+            (kind_naming (frame_view frame) (names_along path.now) place (kinds.ForStep name.now (tree start.now) (optional_tree step.now) (tree limit.now) (tree body.now)))) }
     {
-        let range = self.range(path, start, step, limit)?;
-        let body = self.controlled(path, place, name, body)?;
+        let inner = note_control(&mut self.log.names, frame, name, place)?;
+        let range = self.range(inner, path, start, step, limit)?;
+        let body = self.controlled(inner, path, place, name, body)?;
         Ok(range_verdict(place, range, body))
     }
 
@@ -483,17 +563,20 @@ impl<'a> Checker<'a> {
     #[cycle(phrases)]
     fn range<'t>(
         &mut self,
+        frame: Frame,
         path: &KnownPath<'_, 't, 'a>,
         start: &'t Phrase,
         step: &'t Option<Box<Phrase>>,
         limit: &'t Phrase,
     ) -> Result<Range<'a>, AllocError>
-        ensures { IfOk result (λ r. RangeChecked path.now self.old.log self.new.log r
+        ensures found { IfOk result (λ r. RangeChecked path.now self.old.log self.new.log r
             (tree start.now) (optional_tree step.now) (tree limit.now)) }
+        ensures notes { OnOk result (Notes self.old.log self.new.log
+            (and (naming (frame_view frame) (names_along path.now) (tree start.now)) (and (perhaps_naming (frame_view frame) (names_along path.now) (optional_tree step.now)) (naming (frame_view frame) (names_along path.now) (tree limit.now))))) }
     {
-        let start = self.phrase(path, start)?;
-        let step = self.step(path, step)?;
-        let limit = self.phrase(path, limit)?;
+        let start = self.phrase(frame, path, start)?;
+        let step = self.step(frame, path, step)?;
+        let limit = self.phrase(frame, path, limit)?;
         Ok(Range { start, step, limit })
     }
 
@@ -501,15 +584,18 @@ impl<'a> Checker<'a> {
     #[cycle(phrases)]
     fn step<'t>(
         &mut self,
+        frame: Frame,
         path: &KnownPath<'_, 't, 'a>,
         step: &'t Option<Box<Phrase>>,
     ) -> Result<Option<Verdict<'a>>, AllocError>
-        ensures { IfOk result (λ v. StepChecked path.now self.old.log self.new.log
+        ensures found { IfOk result (λ v. StepChecked path.now self.old.log self.new.log
             (option_map view.verdict v) (optional_tree step.now)) }
+        ensures notes { OnOk result (Notes self.old.log self.new.log
+            (perhaps_naming (frame_view frame) (names_along path.now) (optional_tree step.now))) }
     {
         match step {
             None => Ok(None),
-            Some(step) => Ok(Some(self.phrase(path, step)?)),
+            Some(step) => Ok(Some(self.phrase(frame, path, step)?)),
         }
     }
 
@@ -517,17 +603,21 @@ impl<'a> Checker<'a> {
     #[cycle(phrases)]
     fn for_list<'t>(
         &mut self,
+        frame: Frame,
         path: &KnownPath<'_, 't, 'a>,
         place: Place,
         name: &'t Spelling,
         values: &'t [Phrase],
         body: &'t Phrase,
     ) -> Result<Verdict<'a>, AllocError>
-        ensures { (first : Place) → IfOk result (λ v. Checked self.old.log self.new.log (view.verdict v)
+        ensures found { (first : Place) → IfOk result (λ v. Checked self.old.log self.new.log (view.verdict v)
             (typed_kind path.now place first (kinds.ForList name.now (phrases_of (map tree values.now)) (tree body.now)))) }
+        ensures notes { OnOk result (Notes self.old.log self.new.log
+            (kind_naming (frame_view frame) (names_along path.now) place (kinds.ForList name.now (phrases_of (map tree values.now)) (tree body.now)))) }
     {
-        let values = self.phrases(path, values)?;
-        let body = self.controlled(path, place, name, body)?;
+        let inner = note_control(&mut self.log.names, frame, name, place)?;
+        let values = self.phrases(inner, path, values)?;
+        let body = self.controlled(inner, path, place, name, body)?;
         Ok(for_list_verdict(place, &values, body))
     }
 }

@@ -3,11 +3,14 @@ ghost use Rattle.algolw_tree.specs.Wholes.{whole_kind, whole_tree};
 ghost use Rattle.algolw_typing.specs.Faults.{deck_place, faults_found, item_place, typed_program};
 ghost use Rattle.algolw_typing.specs.Rows as rows;
 ghost use Rattle.algolw_typing.specs.Verdicts.{part, type_of};
+ghost use Rattle.algolw_typing.specs.Naming.{program_naming};
+ghost use Rattle.typed_findings.specs.ClassView.{class_view};
 ghost use Rattle.typed_findings.specs.Findings.{finding_view, found_of};
 ghost use Rattle.typing_rules.specs.View as view;
 
 use crate::checker::Checker;
 use algolw_tree::{Item, LIBRARY_PLACE, Whole};
+use block_scopes::{Frame, note_standard};
 use bumpalo::Bump;
 use declared_names::KnownPath;
 use std::alloc::{AllocError, Global};
@@ -49,9 +52,9 @@ fn program_verdict<'a>(place: Place, block: Verdict<'a>) -> Verdict<'a>
     }
 }
 
-/// Checks a program, with the standard names in a block round it: all its faults, in the order of the rules, and what is found
-/// of its phrases. That it isn't a statement is said where its deck begins. There is room for so many findings from the first
-/// on, so that the row needn't grow.
+/// Checks a program, with the standard names in a block round it: all its faults, in the order of the rules, what is found of
+/// its phrases, and its names and record classes in the order in which they are met. That it isn't a statement is said where
+/// its deck begins. There is room for so many findings from the first on, so that the row needn't grow.
 pub fn check_program<'t, 'a: 't>(
     alloc: Global,
     arena: &'a Bump,
@@ -62,14 +65,16 @@ pub fn check_program<'t, 'a: 't>(
         ≡ found_of (typed_program (whole_tree root.entry)).node) }
     ensures faults { IfOk result (λ log. log.faults.items
         ≡ faults_found (whole_tree root.entry) (typed_program (whole_tree root.entry))) }
+    ensures names { IfOk result (λ log. log.names.items ≡ (program_naming (whole_tree root.entry)).names) }
+    ensures classes { IfOk result (λ log. map class_view log.classes.items
+        ≡ (program_naming (whole_tree root.entry)).classes) }
 {
-    let log = Log {
-        faults: Vec::new(alloc),
-        findings: Vec::with_capacity(alloc, room)?,
-    };
+    let mut log = Log::new(alloc);
+    log.findings = Vec::with_capacity(alloc, room)?;
+    note_standard(&mut log.names)?;
     let mut checker = Checker { alloc, arena, log };
     let standard: KnownPath<'t, 't, 'a> = KnownPath::standard();
-    let block = checker.root(&standard, root)?;
+    let block = checker.root(Frame::of_program(), &standard, root)?;
     checker.note(program_verdict(deck_place(root), block))?;
     Ok(checker.log)
 }

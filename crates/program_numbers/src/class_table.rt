@@ -1,14 +1,14 @@
 ghost use Rattle.std.specs.Prelude.{◌≡◌, IfOk, map};
 ghost use Rattle.algolw_typing.specs.Known.{AllHad, FieldsKnow, ClassesKnow};
 ghost use Rattle.algolw_typing.specs.ProgramView.{numbered};
-ghost use Rattle.block_scopes.specs.ClassView.{class_view, field_view};
+ghost use Rattle.typed_findings.specs.ClassView.{class_view, field_view};
 ghost use Rattle.program_numbers.specs.Makes.{Makes};
 ghost use Rattle.program_numbers.specs.HoldsClasses.{HoldsClasses, field_in, named_class};
 
 use crate::numbering::Numbering;
 use crate::table_builder::TableBuilder;
-use block_scopes::{Field, FoundClass};
 use std::alloc::AllocError;
+use typed_findings::{Field, FoundClass};
 use value_ops::{Name, SimpleType};
 
 impl Numbering {
@@ -37,7 +37,7 @@ impl Numbering {
     {
         let mut table = TableBuilder::new(self.alloc);
         for class in classes {
-            let fields = self.fields(&mut table, &class.fields)?;
+            let fields = self.fields(&mut table, class.fields)?;
             if table.class_count() >= 65535 || fields.len() >= 4294967295 {
                 return Err(AllocError);
             }

@@ -4,15 +4,14 @@ ghost use Rattle.algolw_typing.specs.Faults.{typed_program};
 ghost use Rattle.algolw_typing.specs.Known.{AllHad, Knows, ClassesKnow};
 ghost use Rattle.algolw_typing.specs.ProgramView.{HoldsProgram};
 ghost use Rattle.algolw_typing.specs.Programs.{by_place, statements};
-ghost use Rattle.block_scopes.specs.ClassView.{class_view};
+ghost use Rattle.typed_findings.specs.ClassView.{class_view};
 ghost use Rattle.typed_findings.specs.Findings.{counted_places, finding_view, found_of};
 
 use crate::numbering::Numbering;
 use crate::place_numbers::PlaceNumbers;
 use algolw_tree::{NameInfo, Program, Whole};
-use block_scopes::FoundClass;
 use std::alloc::{AllocError, Global};
-use typed_findings::{Finding, Untaken, statements};
+use typed_findings::{Finding, FoundClass, Untaken, statements};
 use value_ops::Place;
 
 /// Puts places in order.

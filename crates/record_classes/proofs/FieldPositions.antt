@@ -1,12 +1,10 @@
 -- The positions of fields.
 use Rattle.std.proofs.Common.{◌≡◌, ℕ, suc, ◌+◌, ◌<◌, Bool, true, false, cond, List, [], ◌∷◌, ◌++◌, Option, Some, None, length, take, get_or, refl, sym, ap, ◌∙◌, arith}
 use Rattle.std.proofs.lemmas.List.{take_more, length-take-le}
-use Rattle.std.proofs.lemmas.Map.Text.{is_eq-slice_cmp}
 use Rattle.std.proofs.lemmas.Slice.Eq.{bytes_eq-Decides}
-use Rattle.std.specs.BTreeMap.{BTreeMap, get, is_at}
+use Rattle.std.specs.HashMap.{HashMap, get}
 use Rattle.std.specs.Option.{option_map, option_or, unwrap_or}
 use Rattle.std.specs.Str.{bytes_eq}
-use Rattle.short_text.specs.Order.{bytes_cmp}
 use Rattle.record_classes.specs.Classes.{Field, position_of}
 
 push_step : (same : Bool) (p q : Option ℕ) → cond same (Some 0) (option_map suc (option_or p q)) ≡ option_or (cond same (Some 0) (option_map suc p)) (option_map suc q)
@@ -34,17 +32,16 @@ by_name false None here i f = refl
 by_name false (Some n) here i f = refl
 
 -- a name more among the positions, as among the fields
-pub positions-push : (fields : List Field) (i : ℕ) (f : Field) (old : BTreeMap (List ℕ) ℕ) (held : Option ℕ) (value : ℕ) (name : List ℕ) → i < length fields → f ≡ get_or fields i f
-    → ((q : List ℕ) → get bytes_cmp old q ≡ position_of (take i fields) q)
-    → value ≡ unwrap_or (get bytes_cmp old f.0) i
-    → held ≡ cond (is_at (bytes_cmp f.0) name) (Some value) (get bytes_cmp old name)
+pub positions-push : {S : Type 0} (fields : List Field) (i : ℕ) (f : Field) (old : HashMap (List ℕ) ℕ S) (held : Option ℕ) (value : ℕ) (name : List ℕ) → i < length fields → f ≡ get_or fields i f
+    → ((q : List ℕ) → get bytes_eq old q ≡ position_of (take i fields) q)
+    → value ≡ unwrap_or (get bytes_eq old f.0) i
+    → held ≡ cond (bytes_eq f.0 name) (Some value) (get bytes_eq old name)
     → held ≡ position_of (take (i + 1) fields) name
 positions-push fields i f old held value name within item at here is =
     let long : length (take i fields) ≡ i = length-take-le i fields (omega arith) in
     is
-    ∙ ap (λ (b : Bool). cond b (Some value) (get bytes_cmp old name)) (is_eq-slice_cmp f.0 name)
-    ∙ ap (λ (v : ℕ). cond (bytes_eq f.0 name) (Some v) (get bytes_cmp old name)) here
-    ∙ by_name (bytes_eq f.0 name) (get bytes_cmp old name) (get bytes_cmp old f.0) i (λ h. ap (get bytes_cmp old) (sym ((bytes_eq-Decides f.0 name).0 h)))
+    ∙ ap (λ (v : ℕ). cond (bytes_eq f.0 name) (Some v) (get bytes_eq old name)) here
+    ∙ by_name (bytes_eq f.0 name) (get bytes_eq old name) (get bytes_eq old f.0) i (λ h. ap (get bytes_eq old) (sym ((bytes_eq-Decides f.0 name).0 h)))
     ∙ ap (λ (p : Option ℕ). option_or p (cond (bytes_eq f.0 name) (Some i) None)) (at name)
     ∙ ap (λ (n : ℕ). option_or (position_of (take i fields) name) (cond (bytes_eq f.0 name) (Some n) None)) (sym long)
     ∙ sym (position_of-push (take i fields) f name)

@@ -2,8 +2,9 @@ ghost use Rattle.std.specs.Prelude.{◌≡◌, ◌<◌, ◌≤◌, IfOk, length}
 ghost use Rattle.record_classes.specs.Classes.{position_of};
 ghost use Rattle.record_classes.specs.Held.{Positions};
 
+use crate::field_name::FieldName;
 use std::alloc::AllocError;
-use std::collections::BTreeMap;
+use std::collections::HashMap;
 use std::marker::Model;
 use value_ops::{Name, SimpleType};
 
@@ -13,7 +14,7 @@ pub(crate) struct Class {
     name: Name,
     fields: Vec<(Name, SimpleType)>,
     /// Where among the fields each name stands first; `None` of few fields, among which a name is found by looking at each.
-    positions: Option<BTreeMap<Name, u32>>,
+    positions: Option<Box<HashMap<FieldName, u32>>>,
 }
 
 /// How many fields are few.
@@ -40,7 +41,7 @@ impl Class {
         let positions = if fields.len() <= FEW {
             None
         } else {
-            Some(positions_of(&fields)?)
+            Some(Box::new(*fields.allocator(), positions_of(&fields)?)?)
         };
         Ok(Class {
             name,
@@ -53,11 +54,7 @@ impl Class {
     pub(crate) fn copied(&self) -> Result<Class, AllocError>
         ensures { IfOk result (λ class. class ≡ self.now) }
     {
-        Ok(Class {
-            name: self.name,
-            fields: self.fields.clone()?,
-            positions: self.positions.clone()?,
-        })
+        Class::new(self.name, self.fields.clone()?)
     }
 
     /// Its name.
@@ -79,20 +76,22 @@ impl Class {
         ensures { result ≡ position_of self.now.fields field.now }
     {
         match &self.positions {
-            Some(positions) => positions.get(field).copied(),
+            Some(positions) => positions.get(&FieldName::new(field)).copied(),
             None => position_among(&self.fields, field),
         }
     }
 }
 
 /// Where among these fields each name stands first.
-fn positions_of(fields: &Vec<(Name, SimpleType)>) -> Result<BTreeMap<Name, u32>, AllocError>
+fn positions_of(fields: &Vec<(Name, SimpleType)>) -> Result<HashMap<FieldName, u32>, AllocError>
     requires { length fields.now.items < 4294967295 }
     ensures { IfOk result (λ positions. Positions fields.now.items positions) }
 {
-    let mut positions = BTreeMap::new(*fields.allocator());
+    let mut positions = HashMap::with_capacity(*fields.allocator(), fields.len())?;
     for (position, field) in fields.iter().enumerate() {
-        positions.entry(field.0)?.or_insert(position as u32);
+        positions
+            .entry(FieldName::new(&field.0))?
+            .or_insert(position as u32);
     }
     Ok(positions)
 }

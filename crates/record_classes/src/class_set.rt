@@ -3,7 +3,6 @@ ghost use Rattle.record_classes.specs.Classes.{has, is_same_set};
 ghost use Rattle.record_classes.specs.Held.{Rising};
 
 use std::alloc::AllocError;
-use std::collections::BTreeSet;
 use std::marker::Model;
 use value_ops::ClassId;
 
@@ -13,7 +12,7 @@ pub(crate) struct ClassSet {
     /// As they were added.
     classes: Vec<ClassId>,
     /// Each once, in rising order.
-    members: BTreeSet<ClassId>,
+    members: Vec<ClassId>,
 }
 
 impl Model for ClassSet {
@@ -26,7 +25,7 @@ impl Model for ClassSet {
 
     ghost view = { λ s. s.classes.items };
 
-    ghost invariant = { λ s. Members s.classes.items s.members };
+    ghost invariant = { λ s. Members s.classes.items s.members.items };
 }
 
 impl ClassSet {
@@ -34,10 +33,9 @@ impl ClassSet {
     pub(crate) fn new(classes: Vec<ClassId>) -> Result<ClassSet, AllocError>
         ensures { IfOk result (λ set. set ≡ classes.items) }
     {
-        let mut members = BTreeSet::new(*classes.allocator());
-        for class in classes.iter() {
-            members.insert(*class)?;
-        }
+        let mut members = classes.clone()?;
+        members.sort_unstable();
+        members.dedup();
         Ok(ClassSet { classes, members })
     }
 
@@ -62,7 +60,7 @@ impl ClassSet {
     pub(crate) fn has(&self, class: ClassId) -> bool
         ensures { result ≡ has self.now class }
     {
-        self.members.contains(&class)
+        self.members.binary_search(&class).is_ok()
     }
 
     /// Its classes, each once, in rising order.
@@ -70,7 +68,6 @@ impl ClassSet {
         ensures rising { IfOk result (λ members. Rising members.items) }
         ensures same { IfOk result (λ members. is_same_set members.items self.now ≡ true) }
     {
-        let members = self.members.iter().copied();
-        members.collect(*self.classes.allocator())
+        self.members.clone()
     }
 }

@@ -3,6 +3,7 @@
 
 mod class;
 mod class_set;
+mod field_name;
 mod laws;
 mod table;
 

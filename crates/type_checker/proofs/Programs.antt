@@ -22,9 +22,9 @@ use Rattle.algolw_typing.specs.ProgramView.{HoldsProgram}
 use Rattle.algolw_typing.specs.Typed as typed
 use Rattle.algolw_typing.proofs.KnownPrograms.{nothing_is_unknown}
 use Rattle.typing_rules.proofs.Sets.{place_itself}
-use Rattle.block_scopes.specs.ClassView.{class_view}
-use Rattle.block_scopes.specs.Resolution.{IsResolution}
-use Rattle.block_scopes.specs.declared.classes.FoundClass.{FoundClass}
+use Rattle.typed_findings.specs.ClassView.{class_view}
+use Rattle.type_checker.specs.Resolution.{IsResolution}
+use Rattle.typed_findings.specs.declared.classes.FoundClass.{FoundClass}
 
 -- ---- no faults are found exactly where a program has none
 

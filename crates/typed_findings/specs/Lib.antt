@@ -1,2 +1,4 @@
+pub mod ClassView
 pub mod Findings
+pub mod Noted
 pub mod Taking

@@ -1,7 +1,11 @@
 ghost use Rattle.std.specs.Prelude.{◌≡◌, ◌∷◌, [], ◌++◌, IfOk, OnOk, map};
+ghost use Rattle.algolw_typing.specs.Naming.{nothing};
 ghost use Rattle.typed_findings.specs.Findings.{counted_places, finding_view};
+ghost use Rattle.typed_findings.specs.Noted.{Notes};
 
+use crate::classes::FoundClass;
 use crate::finding::Finding;
+use algolw_tree::NameInfo;
 use std::alloc::{AllocError, Global};
 use value_ops::{Diagnostic, Place};
 
@@ -12,6 +16,10 @@ pub struct Log<'a> {
     pub faults: Vec<Diagnostic>,
     /// What is found of phrases, types and names.
     pub findings: Vec<Finding<'a>>,
+    /// What is declared.
+    pub names: Vec<NameInfo>,
+    /// The record classes.
+    pub classes: Vec<FoundClass<'a>>,
 }
 
 impl<'a> Log<'a> {
@@ -19,10 +27,14 @@ impl<'a> Log<'a> {
     pub fn new(alloc: Global) -> Log<'a>
         ensures faults { result.faults.items ≡ [] }
         ensures findings { result.findings.items ≡ [] }
+        ensures names { result.names.items ≡ [] }
+        ensures classes { result.classes.items ≡ [] }
     {
         Log {
             faults: Vec::new(alloc),
             findings: Vec::new(alloc),
+            names: Vec::new(alloc),
+            classes: Vec::new(alloc),
         }
     }
 
@@ -30,6 +42,7 @@ impl<'a> Log<'a> {
     pub fn add(&mut self, finding: Finding<'a>) -> Result<(), AllocError>
         ensures faults { OnOk result (self.new.faults.items ≡ self.old.faults.items) }
         ensures findings { OnOk result (self.new.findings.items ≡ self.old.findings.items ++ finding.entry ∷ []) }
+        ensures notes { OnOk result (Notes self.old self.new nothing) }
     {
         self.findings.push(finding)?;
         Ok(())

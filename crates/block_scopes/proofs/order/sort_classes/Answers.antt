@@ -1,6 +1,6 @@
 use Rattle.std.proofs.Common.{map, ap, sym, ◌∙◌, rules}
 use Rattle.std.proofs.lemmas.List.Sorted.{answers_always}
-use Rattle.block_scopes.specs.ClassView.{class_view}
+use Rattle.typed_findings.specs.ClassView.{class_view}
 use Rattle.block_scopes.proofs.PlaceOrder.{sorted_by_place, by_place_map}
 use Rattle.block_scopes.proofs.order.sort_classes.Goals as goal
 

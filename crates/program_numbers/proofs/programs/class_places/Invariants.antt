@@ -1,5 +1,5 @@
 use Rattle.std.proofs.Common.{◌≡◌, map, take}
-use Rattle.block_scopes.specs.ClassView.{class_view}
+use Rattle.typed_findings.specs.ClassView.{class_view}
 use Rattle.program_numbers.proofs.programs.class_places.Given as goal
 
 abbrev pub invariant-loop-class : goal.invariant-loop-class

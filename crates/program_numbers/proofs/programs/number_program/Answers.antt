@@ -4,7 +4,7 @@ use Rattle.algolw_typing.specs.Faults.{typed_program}
 use Rattle.algolw_typing.specs.Known.{AllHad, ClassesKnow}
 use Rattle.algolw_typing.specs.Programs.{by_place}
 use Rattle.algolw_typing.specs.ProgramView.{node_view}
-use Rattle.block_scopes.specs.ClassView.{class_view}
+use Rattle.typed_findings.specs.ClassView.{class_view}
 use Rattle.typed_findings.specs.Findings.{counted_places, finding_view}
 use Rattle.program_numbers.specs.Makes.{Makes}
 use Rattle.program_numbers.proofs.ProgramMaking.{program_held}

@@ -1,8 +1,7 @@
 use Rattle.std.proofs.Common.{suc, length}
-use Rattle.name_scopes.specs.Nearest.{Nearest}
+use Rattle.name_scopes.proofs.Looking.{Going}
 use Rattle.declared_names.specs.Standards.{standard_path}
 use Rattle.declared_names.proofs.path.KnownPath.nearest.Given as goal
 
--- the marks before this one are done
 abbrev pub invariant-loop-mark : goal.invariant-loop-mark
-invariant-loop-mark l = Nearest standard_path l.self l.mark (suc (length l.self)) l.each
+invariant-loop-mark l = Going standard_path l.self l.mark (suc (length l.self)) l.initial.each l.each

@@ -2,6 +2,7 @@ use Rattle.std.proofs.Common.{◌≡◌, ◌+◌, ◌*◌, ◌++◌, suc, drop, 
 use Rattle.algolw_tree.specs.Grammar.{phrases_of, links_of, lists_of, actuals_of, items_of, bounds_of, decls_of}
 use Rattle.algolw_tree.specs.View.{tree, part_tree, link_tree, list_tree, actual_tree, item_tree, bound_tree, decl_tree, procedure_tree, optional_tree}
 use Rattle.algolw_tree.proofs.Sizes.{size, size_perhaps, size_phrases, size_links, size_lists, size_listing, size_actuals, size_actual, size_items, size_bounds, size_decls, size_decl}
+use Rattle.algolw_typing.specs.Naming.{NamePath, actuals_naming, bounds_naming, decls_naming, items_naming, links_naming, lists_naming, phrases_naming}
 use Rattle.algolw_typing.specs.Scopes.{Scopes}
 use Rattle.algolw_typing.specs.Types.{Statement}
 use Rattle.algolw_typing.specs.Typing as rules
@@ -9,12 +10,16 @@ use Rattle.algolw_typing.specs.Typing.{typed_bounds, typed_decls, typed_items, t
 use Rattle.algolw_typing.specs.Verdicts.{Good}
 use Rattle.typing_rules.specs.MeaningView.{part, reading}
 use Rattle.typing_rules.specs.View as view
-use Rattle.declared_names.specs.Blocks.{bounds_view, each_bounds}
+use Rattle.block_scopes.specs.FrameView.{frame_view}
+use Rattle.declared_names.specs.Blocks.{bounds_notes, bounds_view, each_bounds}
+use Rattle.declared_names.specs.NamesAlong.{names_along}
 use Rattle.typed_phrases.specs.FoundParts.{all_view, given_view}
 use Rattle.typed_phrases.specs.Fronts.{front_lists}
 use Rattle.typed_phrases.specs.FrontViews.{front_view}
 use Rattle.phrase_checker.proofs.BlockSteps.{BoundsSoFar, DeclsSoFar, ItemsSoFar, phrase_in}
 use Rattle.phrase_checker.proofs.ListSteps.{ListsSoFar, PartsSoFar}
+use Rattle.phrase_checker.proofs.Noting.{Left}
+use Rattle.phrase_checker.specs.NotedParts.{each_notes}
 use Rattle.phrase_checker.proofs.Turns.{CasesSoFar, LinksSoFar, PhrasesSoFar}
 use Rattle.phrase_checker.proofs.checker.Checker.+phrases.Given as goal
 
@@ -59,18 +64,21 @@ decreases-case l = suc (suc (3 * size (part_tree l.part.now)))
 
 abbrev pub invariant-cases-loop-part : goal.invariant-cases-loop-part
 invariant-cases-loop-part l =
-    CasesSoFar l.initial.self.log l.self.log (given_view l.gives) (typed_phrases l.path (phrases_of (map part_tree l.parts))) (typed_phrases l.path (phrases_of (map part_tree (drop l.part-index l.parts))))
+    (CasesSoFar l.initial.self.log l.self.log (given_view l.gives) (typed_phrases l.path (phrases_of (map part_tree l.parts))) (typed_phrases l.path (phrases_of (map part_tree (drop l.part-index l.parts)))))
+    × Left (phrases_naming (frame_view l.frame) (names_along l.path) (phrases_of (map part_tree l.parts))) (phrases_naming (frame_view l.frame) (names_along l.path) (phrases_of (map part_tree (drop l.part-index l.parts)))) l.initial.self.log l.self.log
 
 abbrev pub decreases-phrases : goal.decreases-phrases
 decreases-phrases l = 3 * size_phrases (phrases_of (map tree l.phrases.now))
 
 abbrev pub invariant-phrases-loop-phrase : goal.invariant-phrases-loop-phrase
 invariant-phrases-loop-phrase l =
-    PhrasesSoFar l.initial.self.log l.self.log (all_view l.found.gives) (typed_phrases l.path (phrases_of (map tree l.phrases))) (typed_phrases l.path (phrases_of (map tree (drop l.phrase-index l.phrases))))
+    (PhrasesSoFar l.initial.self.log l.self.log (all_view l.found.gives) (typed_phrases l.path (phrases_of (map tree l.phrases))) (typed_phrases l.path (phrases_of (map tree (drop l.phrase-index l.phrases)))))
+    × Left (phrases_naming (frame_view l.frame) (names_along l.path) (phrases_of (map tree l.phrases))) (phrases_naming (frame_view l.frame) (names_along l.path) (phrases_of (map tree (drop l.phrase-index l.phrases)))) l.initial.self.log l.self.log
 
 abbrev pub invariant-links-loop-link : goal.invariant-links-loop-link
 invariant-links-loop-link l =
-    LinksSoFar l.initial.self.log l.self.log (typed_links l.path (view.verdict l.initial.front) (links_of (map link_tree l.links))) (typed_links l.path (view.verdict l.front) (links_of (map link_tree (drop l.link-index l.links))))
+    (LinksSoFar l.initial.self.log l.self.log (typed_links l.path (view.verdict l.initial.front) (links_of (map link_tree l.links))) (typed_links l.path (view.verdict l.front) (links_of (map link_tree (drop l.link-index l.links)))))
+    × Left (links_naming (frame_view l.frame) (names_along l.path) (links_of (map link_tree l.links))) (links_naming (frame_view l.frame) (names_along l.path) (links_of (map link_tree (drop l.link-index l.links)))) l.initial.self.log l.self.log
 
 abbrev pub decreases-is_class : goal.decreases-is_class
 decreases-is_class l = 3 * suc (size (tree l.operand.now))
@@ -155,11 +163,13 @@ decreases-item_phrase l = suc (suc (3 * size (tree l.phrase.now)))
 
 abbrev pub invariant-named-loop-list : goal.invariant-named-loop-list
 invariant-named-loop-list l =
-    ListsSoFar l.initial.self.log l.self.log (front_lists l.path (front_view l.name l.initial.front) (lists_of (map list_tree l.lists))) (front_lists l.path (front_view l.name l.front) (lists_of (map list_tree (drop l.list-index l.lists))))
+    (ListsSoFar l.initial.self.log l.self.log (front_lists l.path (front_view l.name l.initial.front) (lists_of (map list_tree l.lists))) (front_lists l.path (front_view l.name l.front) (lists_of (map list_tree (drop l.list-index l.lists)))))
+    × Left (lists_naming (frame_view l.frame) (names_along l.path) (lists_of (map list_tree l.lists))) (lists_naming (frame_view l.frame) (names_along l.path) (lists_of (map list_tree (drop l.list-index l.lists)))) l.initial.self.log l.self.log
 
 abbrev pub invariant-parts-loop-actual : goal.invariant-parts-loop-actual
 invariant-parts-loop-actual l =
-    PartsSoFar l.initial.self.log l.self.log (map part l.found.items) (typed_parts l.path (reading l.initial.reading) (actuals_of (map actual_tree l.actuals))) (typed_parts l.path (reading l.reading) (actuals_of (map actual_tree (drop l.actual-index l.actuals))))
+    (PartsSoFar l.initial.self.log l.self.log (map part l.found.items) (typed_parts l.path (reading l.initial.reading) (actuals_of (map actual_tree l.actuals))) (typed_parts l.path (reading l.reading) (actuals_of (map actual_tree (drop l.actual-index l.actuals)))))
+    × Left (actuals_naming (frame_view l.frame) (names_along l.path) (actuals_of (map actual_tree l.actuals))) (actuals_naming (frame_view l.frame) (names_along l.path) (actuals_of (map actual_tree (drop l.actual-index l.actuals)))) l.initial.self.log l.self.log
 
 -- what is declared, and the bounds that are found, with what is left are all
 abbrev pub invariant-meanings-loop-decl : goal.invariant-meanings-loop-decl
@@ -167,15 +177,21 @@ invariant-meanings-loop-decl l =
     (l.self.log ≡ l.initial.self.log)
     × (l.scope ++ rules.meanings l.path l.names (decls_of (map decl_tree (drop l.decl-index l.decls))) ≡ l.initial.scope ++ rules.meanings l.path l.names (decls_of (map decl_tree l.decls)))
     × (map bounds_view l.found.items ++ each_bounds l.path (map decl_tree (drop l.decl-index l.decls)) ≡ each_bounds l.path (map decl_tree l.decls))
+    × (map bounds_notes l.found.items ++ each_notes (frame_view l.frame) (names_along l.path) (map decl_tree (drop l.decl-index l.decls)) ≡ each_notes (frame_view l.frame) (names_along l.path) (map decl_tree l.decls))
 
 abbrev pub invariant-bounds-loop-bound : goal.invariant-bounds-loop-bound
-invariant-bounds-loop-bound l = BoundsSoFar l.initial.self.log l.self.log (typed_bounds l.path (bounds_of (map bound_tree l.bounds))) (typed_bounds l.path (bounds_of (map bound_tree (drop l.bound-index l.bounds))))
+invariant-bounds-loop-bound l =
+    (BoundsSoFar l.initial.self.log l.self.log (typed_bounds l.path (bounds_of (map bound_tree l.bounds))) (typed_bounds l.path (bounds_of (map bound_tree (drop l.bound-index l.bounds)))))
+    × Left (bounds_naming (frame_view l.frame) (names_along l.path) (bounds_of (map bound_tree l.bounds))) (bounds_naming (frame_view l.frame) (names_along l.path) (bounds_of (map bound_tree (drop l.bound-index l.bounds)))) l.initial.self.log l.self.log
 
 abbrev pub invariant-decls-loop-position : goal.invariant-decls-loop-position
 invariant-decls-loop-position l =
-    (around : Scopes) → map bounds_view l.bounds ≡ each_bounds around (map decl_tree l.decls)
-    → DeclsSoFar l.initial.self.log l.self.log (typed_decls around l.path (decls_of (map decl_tree l.decls))) (typed_decls around l.path (decls_of (map decl_tree (drop l.position l.decls))))
+    ((around : Scopes) → map bounds_view l.bounds ≡ each_bounds around (map decl_tree l.decls)
+    → DeclsSoFar l.initial.self.log l.self.log (typed_decls around l.path (decls_of (map decl_tree l.decls))) (typed_decls around l.path (decls_of (map decl_tree (drop l.position l.decls)))))
+    × ((around : NamePath) → map bounds_notes l.bounds ≡ each_notes (frame_view l.frame) around (map decl_tree l.decls)
+    → Left (decls_naming (frame_view l.frame) around (names_along l.path) (decls_of (map decl_tree l.decls))) (decls_naming (frame_view l.frame) around (names_along l.path) (decls_of (map decl_tree (drop l.position l.decls)))) l.initial.self.log l.self.log)
 
 abbrev pub invariant-items-loop-position : goal.invariant-items-loop-position
 invariant-items-loop-position l =
-    ItemsSoFar l.initial.self.log l.self.log (typed_items l.path (Good Statement) (items_of (map item_tree l.items))) (typed_items l.path (view.verdict l.verdict) (items_of (map item_tree (drop l.position l.items))))
+    (ItemsSoFar l.initial.self.log l.self.log (typed_items l.path (Good Statement) (items_of (map item_tree l.items))) (typed_items l.path (view.verdict l.verdict) (items_of (map item_tree (drop l.position l.items)))))
+    × Left (items_naming (frame_view l.frame) (names_along l.path) (items_of (map item_tree l.items))) (items_naming (frame_view l.frame) (names_along l.path) (items_of (map item_tree (drop l.position l.items)))) l.initial.self.log l.self.log

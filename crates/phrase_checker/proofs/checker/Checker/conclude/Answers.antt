@@ -10,18 +10,18 @@ use Rattle.phrase_checker.proofs.Growth.{as_well, both_ok}
 use Rattle.phrase_checker.proofs.OtherKinds.{found_of_some}
 use Rattle.phrase_checker.proofs.checker.Checker.conclude.Goals as goal
 
-pub returns-in-Empty : goal.returns-in-Empty
-returns-in-Empty c =
+pub returns-in-Empty-clause-found : goal.returns-in-Empty-clause-found
+returns-in-Empty-clause-found c =
     let own = c.args.phrase.now in
     let v : Verdict = view.verdict c.args.verdict in
     both_ok c.note.result _ _ _
     (λ h k. as_well c.args.self.now.log c.note.new.self.log (fault_of v) (fault_of v) [] _ refl (sym (ap (λ (k : Kind). found_itself (tree.At own.place own.first (kind_tree k)) v) c.in-Empty.is)) h)
-    c.note.ensures c.note.ensures
+    c.note.ensures.found c.note.ensures.found
 
-pub returns-in_default : goal.returns-in_default
-returns-in_default c =
+pub returns-in_default-clause-found : goal.returns-in_default-clause-found
+returns-in_default-clause-found c =
     let own = c.args.phrase.now in
     let v : Verdict = view.verdict c.args.verdict in
     both_ok c.found.result _ _ _
     (λ h k. as_well c.args.self.now.log c.found.new.self.log (fault_of v) (fault_of v) (own_finding own.first v ∷ []) _ refl (sym (found_of_some own.place own.first own.kind v c.in_default.not-Empty)) h)
-    c.found.ensures c.found.ensures
+    c.found.ensures.found c.found.ensures.found

@@ -27,7 +27,7 @@ use Rattle.algolw_typing.specs.ProgramView.{nowhere}
 use Rattle.algolw_typing.specs.Typed as typed
 use Rattle.algolw_typing.specs.Types.{has}
 use Rattle.algolw_typing.specs.Typing.{declare_at, declares_at}
-use Rattle.block_scopes.proofs.Arms.{labelled_is, procedure_is, size_item, size_first}
+use Rattle.program_numbers.proofs.TreeParts.{labelled_is, procedure_is, size_item, size_first}
 use Rattle.typed_findings.specs.Findings.{Found}
 use Rattle.typed_findings.specs.Taking.{first_found, name_of, rest_found}
 use Rattle.program_numbers.specs.Makes.{MakesTaken, numbers_in, target_in}

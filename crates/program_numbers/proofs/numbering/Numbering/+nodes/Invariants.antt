@@ -3,7 +3,7 @@ use Rattle.algolw_tree.proofs.Sizes.{size, size_kind, size_perhaps, size_phrases
 use Rattle.algolw_tree.specs.Grammar.{actuals_of, bounds_of, decls_of, items_of, links_of, lists_of, phrases_of}
 use Rattle.algolw_tree.specs.View.{actual_tree, applied_tree, assignment_tree, bound_tree, case_do_tree, case_value_tree, chain_tree, class_test_tree, conditional_tree, decl_tree, for_list_tree, for_step_tree, item_tree, kind_tree, labelled_tree, link_tree, list_tree, listed_tree, optional_tree, part_tree, procedure_tree, relation_tree, repetition_tree, tree}
 use Rattle.algolw_typing.specs.ProgramView as program
-use Rattle.block_scopes.proofs.Arms.{size_item}
+use Rattle.program_numbers.proofs.TreeParts.{size_item}
 use Rattle.program_numbers.specs.Onto.{actuals_onto, bounds_onto, decls_onto, items_onto, links_onto, lists_onto, nodes_onto}
 use Rattle.program_numbers.specs.ProgramParts.{bound_in, link_in, list_in}
 use Rattle.program_numbers.specs.Taken.{actuals_taken, bounds_taken, decls_taken, items_taken, links_taken, lists_taken, nodes_taken}

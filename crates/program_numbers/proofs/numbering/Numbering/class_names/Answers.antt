@@ -1,7 +1,7 @@
 use Rattle.std.proofs.Common.{◌≡◌, map, true}
 use Rattle.algolw_typing.specs.Known.{AllHad}
 use Rattle.algolw_typing.specs.Types.{has}
-use Rattle.block_scopes.specs.ClassView.{class_view}
+use Rattle.typed_findings.specs.ClassView.{class_view}
 use Rattle.program_numbers.proofs.Making.{part_has}
 use Rattle.program_numbers.proofs.numbering.Numbering.class_names.Goals as goal
 

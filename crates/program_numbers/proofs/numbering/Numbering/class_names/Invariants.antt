@@ -1,6 +1,6 @@
 use Rattle.std.proofs.Common.{◌≡◌, map, take}
 use Rattle.algolw_typing.specs.ProgramView.{numbered}
-use Rattle.block_scopes.specs.ClassView.{class_view}
+use Rattle.typed_findings.specs.ClassView.{class_view}
 use Rattle.program_numbers.proofs.numbering.Numbering.class_names.Given as goal
 
 abbrev pub invariant-loop-class : goal.invariant-loop-class

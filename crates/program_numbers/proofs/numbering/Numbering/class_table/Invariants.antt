@@ -1,5 +1,5 @@
 use Rattle.std.proofs.Common.{map, take}
-use Rattle.block_scopes.specs.ClassView.{class_view}
+use Rattle.typed_findings.specs.ClassView.{class_view}
 use Rattle.program_numbers.specs.HoldsClasses.{HoldsClasses, named_class}
 use Rattle.program_numbers.proofs.numbering.Numbering.class_table.Given as goal
 

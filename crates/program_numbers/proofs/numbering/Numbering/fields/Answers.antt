@@ -1,7 +1,7 @@
 use Rattle.std.proofs.Common.{map, refl}
 use Rattle.typing_rules.specs.View.{value_type}
 use Rattle.algolw_typing.specs.Known.{FieldsKnow, KnowsType}
-use Rattle.block_scopes.specs.ClassView.{field_view}
+use Rattle.typed_findings.specs.ClassView.{field_view}
 use Rattle.program_numbers.specs.HoldsClasses.{field_in}
 use Rattle.program_numbers.proofs.Making.{makes_of, turn, finish, part_has}
 use Rattle.program_numbers.proofs.numbering.Numbering.fields.Goals as goal

@@ -1,5 +1,5 @@
 use Rattle.std.proofs.Common.{map, take}
-use Rattle.block_scopes.specs.ClassView.{field_view}
+use Rattle.typed_findings.specs.ClassView.{field_view}
 use Rattle.program_numbers.specs.HoldsClasses.{field_in}
 use Rattle.program_numbers.specs.Makes.{Makes}
 use Rattle.program_numbers.proofs.numbering.Numbering.fields.Given as goal

@@ -1,4 +1,4 @@
-use Rattle.std.proofs.Common.{◌≡◌, [], ◌∷◌, ◌++◌, List, length, sym, subst, rules}
+use Rattle.std.proofs.Common.{◌≡◌, List, length, sym, subst, rules}
 use Rattle.value_ops.specs.declared.values.ClassId.{ClassId}
 use Rattle.record_classes.specs.Held.{Numbers}
 use Rattle.record_classes.proofs.KnownNumbers.{numbers-push, numbers-again, where_ok}

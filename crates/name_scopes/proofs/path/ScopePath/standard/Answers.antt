@@ -1,8 +1,0 @@
-use Rattle.std.proofs.Common.{sym, subst}
-use Rattle.name_scopes.specs.Nearest.{Nearest}
-use Rattle.name_scopes.specs.Standards.{standard_path}
-use Rattle.name_scopes.proofs.Looking.{nothing_kept}
-use Rattle.name_scopes.proofs.path.ScopePath.standard.Goals as goal
-
-pub invariant_of-result : goal.invariant_of-result
-invariant_of-result c = subst (Nearest standard_path standard_path 64 1) (sym c.of-nearest.ensures) (nothing_kept standard_path 64 1)
