@@ -87,26 +87,26 @@ job_in false false (Some c) own accounts n m count library deck data_cards h =
     ∙ as_in_read ranged many own n m count c (account_of accounts c.account) library deck data_cards
 
 -- the front of the share's accounts, with the same libraries
-abbrev part_of : (Option ℕ → Bool) → Front → Front
-part_of own front = record { accounts = part_from own 0 front.accounts; shelf = front.shelf }
+abbrev pub front_in : (Option ℕ → Bool) → Front → Front
+front_in own front = record { accounts = part_from own 0 front.accounts; shelf = front.shelf }
 
 job_of_in : (own : Option ℕ → Bool) (front : Front) (run : Run) (n m : ℕ) → run_is_in own front run ≡ true
-    → job_of (part_of own front) n run.head (body (closed run)) ≡ as_in own n (job_of front m run.head (body run))
+    → job_of (front_in own front) n run.head (body (closed run)) ≡ as_in own n (job_of front m run.head (body run))
 job_of_in own front run n m h =
-    ap (job_of (part_of own front) n run.head) (body_again run)
+    ap (job_of (front_in own front) n run.head) (body_again run)
     ∙ job_in (list_any is_long (run.head ∷ body run)) (list_any is_foul (run.head ∷ body run)) (job_card run.head) own front.accounts n m (length (body run) + 1) (library_for front.shelf (job_card run.head)) _ _ h
 
 jobs_by : (b : Bool) (own : Option ℕ → Bool) (front : Front) (run : Run) (rs : List Run) (n m : ℕ) → run_is_in own front run ≡ b
-    → ((n : ℕ) → jobs_of (part_of own front) n (map closed (filter (run_is_in own front) rs)) ≡ numbered_in own n (filter (is_in own) (jobs_of front (m + 1) rs)))
-    → jobs_of (part_of own front) n (map closed (cond b (run ∷ filter (run_is_in own front) rs) (filter (run_is_in own front) rs)))
+    → ((n : ℕ) → jobs_of (front_in own front) n (map closed (filter (run_is_in own front) rs)) ≡ numbered_in own n (filter (is_in own) (jobs_of front (m + 1) rs)))
+    → jobs_of (front_in own front) n (map closed (cond b (run ∷ filter (run_is_in own front) rs) (filter (run_is_in own front) rs)))
     ≡ numbered_in own n (cond b (job_of front m run.head (body run) ∷ filter (is_in own) (jobs_of front (m + 1) rs)) (filter (is_in own) (jobs_of front (m + 1) rs)))
 jobs_by true own front run rs n m is rest =
-    ap (λ (job : JobView). job ∷ jobs_of (part_of own front) (n + 1) (map closed (filter (run_is_in own front) rs))) (job_of_in own front run n m is)
+    ap (λ (job : JobView). job ∷ jobs_of (front_in own front) (n + 1) (map closed (filter (run_is_in own front) rs))) (job_of_in own front run n m is)
     ∙ ap (λ (jobs : List JobView). as_in own n (job_of front m run.head (body run)) ∷ jobs) (rest (n + 1))
 jobs_by false own front run rs n m is rest = rest n
 
-jobs_of_in : (own : Option ℕ → Bool) (front : Front) (rs : List Run) (n m : ℕ)
-    → jobs_of (part_of own front) n (map closed (filter (run_is_in own front) rs)) ≡ numbered_in own n (filter (is_in own) (jobs_of front m rs))
+pub jobs_of_in : (own : Option ℕ → Bool) (front : Front) (rs : List Run) (n m : ℕ)
+    → jobs_of (front_in own front) n (map closed (filter (run_is_in own front) rs)) ≡ numbered_in own n (filter (is_in own) (jobs_of front m rs))
 jobs_of_in own front [] n m = refl
 jobs_of_in own front (run ∷ rs) n m =
     let same : run_is_in own front run ≡ is_in own (job_of front m run.head (body run)) =
@@ -127,9 +127,9 @@ share_cards own accounts cards =
     let first : before_head some ≡ libs = before-past_all is_head libs (flat_map job_cards mine) (no_heads cards) ∙ ap (λ (xs : List (List ℕ)). libs ++ xs) (first_is_head mine are) ∙ append-nil libs in
     let all : runs some ≡ map closed mine = runs_past libs (flat_map job_cards mine) (no_heads cards) ∙ runs_again mine are in
     let libraries : libraries_in (before_head some) ≡ libraries_in (before_head cards) = ap libraries_in first ∙ libraries_alone cards in
-    let alike : front_of given some ≡ part_of own front = ap (λ (ls : List LibraryView). record { accounts = part_from own 0 accounts; shelf = map shelved ls }) libraries in
+    let alike : front_of given some ≡ front_in own front = ap (λ (ls : List LibraryView). record { accounts = part_from own 0 accounts; shelf = map shelved ls }) libraries in
     let jobs : jobs_of (front_of given some) 1 (runs some) ≡ jobs_in own (jobs_of front 1 (runs cards)) =
-    ap (λ (f : Front). jobs_of f 1 (runs some)) alike ∙ ap (jobs_of (part_of own front) 1) all ∙ jobs_of_in own front (runs cards) 1 1 in
+    ap (λ (f : Front). jobs_of f 1 (runs some)) alike ∙ ap (jobs_of (front_in own front) 1) all ∙ jobs_of_in own front (runs cards) 1 1 in
     let shown : written (before_head some) ≡ written libs = ap written first in
     let shelf : shelf_cards (libraries_in (before_head some)) ≡ shelf_cards (libraries_in (before_head cards)) = ap shelf_cards libraries in
     let outer : sum_by (λ run. written (outside run)) (runs some) ≡ 0 = ap (sum_by (λ run. written (outside run))) all ∙ none_outside mine in

@@ -6,7 +6,6 @@ pub mod Said
 pub mod NightJoins
 pub mod Shelves
 pub mod Libraries
-pub mod ShareJobs
 pub mod PartCards
 pub mod ChainAccounts
 pub mod Cuts

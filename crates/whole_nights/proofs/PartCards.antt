@@ -31,7 +31,7 @@ use Rattle.night_shares.proofs.Pieces.{pieces_in_line}
 use Rattle.night_shares.proofs.Texts.{cards_of_lines}
 use Rattle.whole_nights.specs.Parts.{PartsAreBatches, accounts_then, views_of}
 use Rattle.whole_nights.proofs.Libraries.{all_claimed, in_lines, no_jobs, shelf, shelf_lines, shelf_stays, stays, text_is}
-use Rattle.whole_nights.proofs.ShareJobs.{front_in, jobs_of_in}
+use Rattle.account_shares.proofs.Cards.{front_in, jobs_of_in}
 
 -- ---- the jobs of runs
 
