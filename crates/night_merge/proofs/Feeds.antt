@@ -5,6 +5,7 @@ use Rattle.std.proofs.lemmas.List.Sums.{list_all-from_AllPass}
 use Rattle.std.proofs.Math.ListN.{drop_of_length-le}
 use Rattle.std.proofs.Math.Seq.{drop-append-add}
 use Rattle.std.proofs.lemmas.List.{drop-drop, drop-take, length-take}
+use Rattle.std.proofs.lemmas.Bool.{and_parts}
 use Rattle.deck_reader.specs.Forms.{parted}
 use Rattle.deck_reader.proofs.Fields.{Lacks, Lacks-from_all, parted_is}
 use Rattle.listing_parts.specs.Lines.{is_line}
@@ -29,20 +30,16 @@ pub record GoesPast (old more left rest : List ℕ) : Type 0 where
   pub whole : more ≡ old ++ further
   pub there : left ≡ further ++ 10 ∷ rest
 
-and_both : (a b : Bool) → a && b ≡ true → (a ≡ true) × (b ≡ true)
-and_both true b e = (refl, e)
-and_both false b e = absurd (cc e)
-
 pub goes_past : (old more left rest : List ℕ) → is_line old ≡ true → old ++ left ≡ more ++ 10 ∷ rest → GoesPast old more left rest
 goes_past [] more left rest h e = record { further = more; whole = refl; there = e }
 goes_past (x ∷ old) [] left rest h e =
     let first : x ≡ 10 = cc in
-    let no = (and_both (not (x == 10)) (is_line old) h).0 in
+    let no = (and_parts (not (x == 10)) (is_line old) h).0 in
     absurd (cc (no, ap (λ (n : ℕ). not (n == 10)) first))
 goes_past (x ∷ old) (y ∷ more) left rest h e =
     let first : x ≡ y = cc in
     let others : old ++ left ≡ more ++ 10 ∷ rest = cc in
-    let past = goes_past old more left rest (and_both (not (x == 10)) (is_line old) h).1 others in
+    let past = goes_past old more left rest (and_parts (not (x == 10)) (is_line old) h).1 others in
     record { further = past.further; whole = ap (λ (t : List ℕ). y ∷ t) past.whole ∙ ap (λ (b : ℕ). b ∷ (old ++ past.further)) (sym first); there = past.there }
 
 -- ---- a line of which the front was taken
@@ -60,7 +57,7 @@ line_behind : (front more line : List ℕ) → line ≡ front ++ more → is_lin
 line_behind [] more line e h = sym (ap is_line e) ∙ h
 line_behind (x ∷ front) more line e h =
     let all : is_line (x ∷ (front ++ more)) ≡ true = sym (ap is_line e) ∙ h in
-    line_behind front more (front ++ more) refl (and_both (not (x == 10)) (is_line (front ++ more)) all).1
+    line_behind front more (front ++ more) refl (and_parts (not (x == 10)) (is_line (front ++ more)) all).1
 
 -- its line feed was taken
 pub pending_ends : (line rest so_far grown old new front : List ℕ) (left : Option (List ℕ)) → is_line line ≡ true → Pending line rest so_far (prepend_known old left)

@@ -6,9 +6,9 @@ use Rattle.std.proofs.Math.Seq.{drop-cons}
 use Rattle.listing_parts.specs.Lines.{text_up}
 use Rattle.std.specs.Borrow.{Bor}
 use Rattle.std.specs.List.{list_all}
+use Rattle.std.proofs.lemmas.Bool.{and_parts}
 use Rattle.listing_parts.specs.Sections.{begins}
 use Rattle.night_merge.specs.Texts.{numbered, numbered_each}
-use Rattle.night_merge.proofs.Plans.{and_first, and_second}
 
 -- sections whose numbers go down to 1
 abbrev pub numbered_down : List (List ℕ) → List (List ℕ)
@@ -43,13 +43,13 @@ numbers_go_down rests =
 
 pub all_append : (p : List ℕ → Bool) (xs ys : List (List ℕ)) → list_all p xs ≡ true → list_all p ys ≡ true → list_all p (xs ++ ys) ≡ true
 all_append p [] ys h k = k
-all_append p (x ∷ xs) ys h k = rw (and_first (p x) (list_all p xs) h) (all_append p xs ys (and_second (p x) (list_all p xs) h) k)
+all_append p (x ∷ xs) ys h k = rw (and_parts (p x) (list_all p xs) h).0 (all_append p xs ys (and_parts (p x) (list_all p xs) h).1 k)
 
 all_reverse : (p : List ℕ → Bool) (xs : List (List ℕ)) → list_all p xs ≡ true → list_all p (reverse xs) ≡ true
 all_reverse p [] h = refl
 all_reverse p (x ∷ xs) h =
-    let here : list_all p (x ∷ []) ≡ true = rw (and_first (p x) (list_all p xs) h) refl in
-    ap (list_all p) (reverse-cons x xs) ∙ all_append p (reverse xs) (x ∷ []) (all_reverse p xs (and_second (p x) (list_all p xs) h)) here
+    let here : list_all p (x ∷ []) ≡ true = rw (and_parts (p x) (list_all p xs) h).0 refl in
+    ap (list_all p) (reverse-cons x xs) ∙ all_append p (reverse xs) (x ∷ []) (all_reverse p xs (and_parts (p x) (list_all p xs) h).1) here
 
 pub length-numbered_down : (ds : List (List ℕ)) → length (numbered_down ds) ≡ length ds
 length-numbered_down [] = refl
@@ -85,8 +85,8 @@ numbers_more_by rests section texts so_far (r ∷ left) whole here blanks =
     let many : length left + 1 ≡ length texts + 1 = omega (arith, ap (λ (l : List (List ℕ)). length l) others, length-numbered_down left) in
     record {
       rest = r;
-      is = record { text = first ∙ ap (λ (n : ℕ). numbered n r) many; blank = and_first (begins 32 r) (list_all (begins 32) left) blanks };
-      after = record { left = left; whole = append_assoc so_far (r ∷ []) left ∙ whole; here = others; blanks = and_second (begins 32 r) (list_all (begins 32) left) blanks };
+      is = record { text = first ∙ ap (λ (n : ℕ). numbered n r) many; blank = (and_parts (begins 32 r) (list_all (begins 32) left) blanks).0 };
+      after = record { left = left; whole = append_assoc so_far (r ∷ []) left ∙ whole; here = others; blanks = (and_parts (begins 32 r) (list_all (begins 32) left) blanks).1 };
     }
 
 pub numbers_more : (rests : List (List ℕ)) (section : List ℕ) (texts all so_far : List (List ℕ)) → all ≡ section ∷ texts → StillNumbered rests all so_far → NextNumbered rests (length texts + 1) section texts so_far

@@ -6,6 +6,7 @@ use Rattle.std.specs.Str.Parse.{AllDigits}
 use Rattle.std.proofs.lemmas.Bool.Decides.{nat_tests}
 use Rattle.std.proofs.lemmas.Fmt.{decimal_is_IsNumeral, decimal_nonempty, length-decimal-le}
 use Rattle.std.proofs.lemmas.Str.Parse.{digit_at}
+use Rattle.std.proofs.lemmas.Bool.{and_parts}
 use Rattle.deck_reader.specs.Forms.{parted}
 use Rattle.deck_reader.proofs.Fields.{Lacks-from_all, parted_is}
 use Rattle.listing_parts.specs.Lines.{is_line}
@@ -55,25 +56,17 @@ parts_are bytes front rest front' rest' e e' =
 
 -- ---- they are lines
 
-pub and_second : (a b : Bool) → a && b ≡ true → b ≡ true
-and_second true b e = e
-and_second false b e = absurd (cc e)
-
-pub and_first : (a b : Bool) → a && b ≡ true → a ≡ true
-and_first true b e = refl
-and_first false b e = absurd (cc e)
-
 pub word_is_line : (word : List ℕ) → is_word word ≡ true → is_line word ≡ true
 word_is_line [] h = refl
 word_is_line (b ∷ word) h =
-    let here = and_second (not (b == 32)) (not (b == 10)) (and_first (not (b == 32) && not (b == 10)) (is_word word) h) in
-    rw here (word_is_line word (and_second (not (b == 32) && not (b == 10)) (is_word word) h))
+    let here = (and_parts (not (b == 32)) (not (b == 10)) (and_parts (not (b == 32) && not (b == 10)) (is_word word) h).0).1 in
+    rw here (word_is_line word (and_parts (not (b == 32) && not (b == 10)) (is_word word) h).1)
 
 pub lines_joined : (a b : List ℕ) → is_line a ≡ true → is_line b ≡ true → is_line (a ++ b) ≡ true
 lines_joined [] b h k = k
 lines_joined (x ∷ a) b h k =
-    let here = and_first (not (x == 10)) (is_line a) h in
-    rw here (lines_joined a b (and_second (not (x == 10)) (is_line a) h) k)
+    let here = (and_parts (not (x == 10)) (is_line a) h).0 in
+    rw here (lines_joined a b (and_parts (not (x == 10)) (is_line a) h).1 k)
 
 pub short_number : (n : ℕ) → n < 2 ^ 64 → length (decimal n) ≤ 20
 short_number n h = length-decimal-le 20 n (lit< tt) (omega arith) h

@@ -9,6 +9,8 @@ use Rattle.night_merge.specs.declared.plan.Entry.{Entry}
 use Rattle.night_merge.specs.declared.plan.Line.{Line}
 use Rattle.night_merge.specs.declared.plan.Line.TheVariants.{Window, Stray}
 use Rattle.night_merge.specs.declared.shelf.Part.{Part}
+use Rattle.night_merge.specs.declared.shelf.Unfetched.{Unfetched}
+use Rattle.night_merge.specs.declared.shelf.Unfetched.TheVariants as unfetched
 use Rattle.night_merge.specs.declared.stop.Stop.{Stop}
 use Rattle.night_merge.specs.declared.stop.Stop.TheVariants as stop
 use Rattle.night_merge.specs.declared.stop.Unread.{Unread}
@@ -19,9 +21,8 @@ use Rattle.night_merge.specs.Joining.{IsWindow}
 use Rattle.night_merge.specs.Nights.{AreWindows}
 use Rattle.night_merge.specs.Parts.{part_at}
 use Rattle.night_merge.specs.Plan.{AreListed, entries_text, fed, first_line, lines_behind}
-use Rattle.night_merge.specs.Stops.{AgreeBefore, AgreeUpTo, IsAmong, IsFair, IsFault, IsOwn, IsWhy, stop_unread}
+use Rattle.night_merge.specs.Stops.{AgreeBefore, AgreeUpTo, IsAmong, IsFair, IsFault, IsNamedIn, IsOwn, IsWhy, named, stop_unfetched, stop_unread}
 use Rattle.night_merge.specs.Supplies.{AreEnough, HasCounts, HasRests}
-use Rattle.night_merge.proofs.Windows.{window_read}
 
 -- ---- each stop has its reason
 
@@ -62,6 +63,38 @@ unread_why chains windows seen known unread.NoMemory other = tt
 unread_why chains windows seen known unread.ReadFault other = tt
 unread_why chains windows seen known unread.BadPlan other = other refl
 
+-- ---- a fault names no part
+
+pub fault_unnamed : (s : Stop) (part : Part) → IsFault s → named s ≡ Some part → ⊥
+fault_unnamed stop.NoMemory part fault names = let none : None ≡ Some part = names in cc none
+fault_unnamed stop.ReadFault part fault names = let none : None ≡ Some part = names in cc none
+fault_unnamed stop.WriteFault part fault names = let none : None ≡ Some part = names in cc none
+fault_unnamed stop.BadPlan part fault names = fault
+fault_unnamed (stop.Missing other) part fault names = fault
+fault_unnamed (stop.OtherListing other) part fault names = fault
+
+pub unread_unnamed : (u : Unread) (part : Part) → named (stop_unread u) ≡ Some part → ⊥
+unread_unnamed unread.NoMemory part names = let none : None ≡ Some part = names in cc none
+unread_unnamed unread.ReadFault part names = let none : None ≡ Some part = names in cc none
+unread_unnamed unread.BadPlan part names = let none : None ≡ Some part = names in cc none
+
+pub unfetched_unnamed : (u : Unfetched) (part : Part) → named (stop_unfetched u) ≡ Some part → ⊥
+unfetched_unnamed unfetched.NoMemory part names = let none : None ≡ Some part = names in cc none
+unfetched_unnamed unfetched.ReadFault part names = let none : None ≡ Some part = names in cc none
+
+-- a part that is named is this one
+pub named_part : (other part : Part) → Some other ≡ Some part → other ≡ part
+named_part other part names = cc names
+
+-- a part whose listing is another's is named by itself
+pub own_named : (chain number : ℕ) (s : Stop) → IsOwn (part_at chain number) s → IsNamedIn number s
+own_named chain number stop.NoMemory own = λ part names. let none : None ≡ Some part = names in cc none
+own_named chain number stop.ReadFault own = absurd own
+own_named chain number stop.WriteFault own = absurd own
+own_named chain number stop.BadPlan own = absurd own
+own_named chain number (stop.Missing other) own = absurd own
+own_named chain number (stop.OtherListing other) own = λ part names. ap (λ (p : Part). p.window) (sym (named_part other part names) ∙ own)
+
 -- ---- a window
 
 -- a window that has the seen listings has the known ones, where they are the same
@@ -101,96 +134,3 @@ enough_of owns count chain (Some own) e within counts = length-map own.items (λ
 pub supply_enough : (entries : List Entry) (owns : List (Vec (Bor (List ℕ)) Global)) → HasCounts entries owns → AreEnough (length owns) (supply_of owns) entries
 unfolding supply_of supply_by
 supply_enough entries owns counts = λ chain within. enough_of owns (count_of chain entries) chain (slice_get owns chain) refl within (λ own there. counts chain own there)
-
--- ---- the windows one after the other
-
--- these windows are still ahead; the accounts have what they have before them, if the listings so far are the seen ones
-pub record StillPlanned (chains : ℕ) (accounts : List Account) (seen known : Part → Option (List ℕ)) (rests : ℕ → ℕ → List (List ℕ)) (balances : ℕ → ℕ → ℕ) (windows : List (List Entry)) (stray : ℕ)
-    (tail : List ℕ) (number : ℕ) (line : Line) (ahead : Option (List ℕ)) (left : List ℕ) : Type 0 where
-  pub low : 0 < number
-  pub more : List (List Entry)
-  pub next : line ≡ first_line number more stray
-  pub there : ahead ≡ Some (lines_behind number more stray ++ tail)
-  pub count : number + length more ≡ 1 + length windows
-  pub has : AgreeBefore seen known number → HasLeft left (balances number)
-  pub are : AreWindows chains accounts seen rests balances number more
-
-pub planned_begin : (chains : ℕ) (accounts : List Account) (seen known : Part → Option (List ℕ)) (rests : ℕ → ℕ → List (List ℕ)) (balances : ℕ → ℕ → ℕ) (windows : List (List Entry)) (stray : ℕ) (tail : List ℕ)
-    (line : Line) (ahead : Option (List ℕ)) (left : List ℕ) → line ≡ first_line 1 windows stray → ahead ≡ Some (lines_behind 1 windows stray ++ tail) → HasLeft left (balances 1)
-    → AreWindows chains accounts seen rests balances 1 windows → StillPlanned chains accounts seen known rests balances windows stray tail 1 line ahead left
-planned_begin chains accounts seen known rests balances windows stray tail line ahead left next there has are = record {
-  low = lit< tt;
-  more = windows;
-  next = next;
-  there = there;
-  count = refl;
-  has = λ agree. has;
-  are = are;
-}
-
--- a window is ahead where a window's line was read
-pub record NextPlanned (chains : ℕ) (accounts : List Account) (seen known : Part → Option (List ℕ)) (rests : ℕ → ℕ → List (List ℕ)) (balances : ℕ → ℕ → ℕ) (windows : List (List Entry)) (stray : ℕ)
-    (tail : List ℕ) (number : ℕ) (ahead : Option (List ℕ)) (left : List ℕ) : Type 0 where
-  pub low : 0 < number
-  pub entries : List Entry
-  pub more : List (List Entry)
-  pub listed : AreListed entries
-  pub few : length entries ≤ 2000
-  pub is : IsWindow chains accounts seen number entries (rests number) (balances number) (balances (number + 1))
-  pub others : AreWindows chains accounts seen rests balances (number + 1) more
-  pub there : ahead ≡ Some (entries_text entries ++ (fed (first_line (number + 1) more stray) ++ (lines_behind (number + 1) more stray ++ tail)))
-  pub count : (number + 1) + length more ≡ 1 + length windows
-  pub has : AgreeBefore seen known number → HasLeft left (balances number)
-
-planned_by : (chains : ℕ) (accounts : List Account) (seen known : Part → Option (List ℕ)) (rests : ℕ → ℕ → List (List ℕ)) (balances : ℕ → ℕ → ℕ) (windows : List (List Entry)) (stray : ℕ) (tail : List ℕ)
-    (number said : ℕ) (ahead : Option (List ℕ)) (left : List ℕ) (more : List (List Entry)) → Window said ≡ first_line number more stray → ahead ≡ Some (lines_behind number more stray ++ tail)
-    → 0 < number → number + length more ≡ 1 + length windows → (AgreeBefore seen known number → HasLeft left (balances number)) → AreWindows chains accounts seen rests balances number more
-    → NextPlanned chains accounts seen known rests balances windows stray tail number ahead left × (said ≡ number)
-planned_by chains accounts seen known rests balances windows stray tail number said ahead left [] next there low count has are = absurd (cc next)
-planned_by chains accounts seen known rests balances windows stray tail number said ahead left (entries ∷ more) next there low count has are = (
-  record {
-    low = low;
-    entries = entries;
-    more = more;
-    listed = are.0;
-    few = are.1;
-    is = are.2;
-    others = are.3;
-    there = there ∙ ap (λ (t : List ℕ). Some t) (window_read number entries more stray tail);
-    count = omega (arith, count);
-    has = has;
-  },
-  cc next,
-)
-
-pub planned_next : (chains : ℕ) (accounts : List Account) (seen known : Part → Option (List ℕ)) (rests : ℕ → ℕ → List (List ℕ)) (balances : ℕ → ℕ → ℕ) (windows : List (List Entry)) (stray : ℕ) (tail : List ℕ)
-    (number said : ℕ) (line : Line) (ahead : Option (List ℕ)) (left : List ℕ) → line ≡ Window said
-    → StillPlanned chains accounts seen known rests balances windows stray tail number line ahead left
-    → NextPlanned chains accounts seen known rests balances windows stray tail number ahead left × (said ≡ number)
-planned_next chains accounts seen known rests balances windows stray tail number said line ahead left e s =
-    planned_by chains accounts seen known rests balances windows stray tail number said ahead left s.more (sym e ∙ s.next) s.there s.low s.count s.has s.are
-
--- it is joined
-pub planned_more : (chains : ℕ) (accounts : List Account) (seen known : Part → Option (List ℕ)) (rests : ℕ → ℕ → List (List ℕ)) (balances : ℕ → ℕ → ℕ) (windows : List (List Entry)) (stray : ℕ) (tail : List ℕ)
-    (number : ℕ) (line : Line) (ahead ahead' : Option (List ℕ)) (left left' : List ℕ) → (w : NextPlanned chains accounts seen known rests balances windows stray tail number ahead left)
-    → line ≡ first_line (number + 1) w.more stray → ahead' ≡ Some (lines_behind (number + 1) w.more stray ++ tail)
-    → (AgreeBefore seen known (number + 1) → HasLeft left' (balances (number + 1)))
-    → StillPlanned chains accounts seen known rests balances windows stray tail (number + 1) line ahead' left'
-planned_more chains accounts seen known rests balances windows stray tail number line ahead ahead' left left' w next there has = record {
-  low = omega arith;
-  more = w.more;
-  next = next;
-  there = there;
-  count = w.count;
-  has = has;
-  are = w.others;
-}
-
-other_by : (line : Line) (number : ℕ) (more : List (List Entry)) (stray : ℕ) → line ≡ first_line number more stray → ((n : ℕ) → line ≡ Window n → ⊥) → ((n : ℕ) → line ≡ Stray n → ⊥) → ⊥
-other_by line number [] stray e no_window no_stray = no_stray stray e
-other_by line number (entries ∷ more) stray e no_window no_stray = no_window number e
-
-pub planned_other : (chains : ℕ) (accounts : List Account) (seen known : Part → Option (List ℕ)) (rests : ℕ → ℕ → List (List ℕ)) (balances : ℕ → ℕ → ℕ) (windows : List (List Entry)) (stray : ℕ) (tail : List ℕ)
-    (number : ℕ) (line : Line) (ahead : Option (List ℕ)) (left : List ℕ) → StillPlanned chains accounts seen known rests balances windows stray tail number line ahead left
-    → ((n : ℕ) → line ≡ Window n → ⊥) → ((n : ℕ) → line ≡ Stray n → ⊥) → ⊥
-planned_other chains accounts seen known rests balances windows stray tail number line ahead left s no_window no_stray = other_by line number s.more stray s.next no_window no_stray

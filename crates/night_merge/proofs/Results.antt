@@ -1,5 +1,5 @@
 -- What holds of results and options.
-use Rattle.std.proofs.Common.{◌≡◌, ℕ, List, true, Option, None, Some, Result, Ok, Err, IsErrAnd, IsSomeAnd, MatchOption, MatchResult, refl, sym, subst}
+use Rattle.std.proofs.Common.{◌≡◌, ℕ, List, true, false, Option, None, Some, Result, Ok, Err, IsErrAnd, IsSomeAnd, MatchOption, MatchResult, refl, sym, subst}
 use Rattle.std.specs.Option.{is_some}
 use Rattle.night_merge.specs.declared.shelf.Part.{Part}
 use Rattle.night_merge.specs.declared.stop.Stop.{Stop}
@@ -17,6 +17,11 @@ match_this (Err e) error P Q is holds = subst Q (sym is) holds
 pub some_there : {A : Type 0} (r : Option A) (P : Type 0) (Q : A → Type 0) → MatchOption r P Q → (P → ⊥) → is_some r ≡ true
 some_there None P Q holds other = absurd (other holds)
 some_there (Some x) P Q holds other = refl
+
+-- and there is something, where that is said
+pub something : {A : Type 0} (r : Option A) (P : Type 0) (Q : A → Type 0) → MatchOption r P Q → is_some r ≡ true → (x : A) × Q x
+something None P Q holds is = absurd (let none : false ≡ true = is in cc none)
+something (Some x) P Q holds is = (x, holds)
 
 pub some_not_none : {A : Type 0} (r : Option A) (P : A → Type 0) → IsSomeAnd r P → r ≡ None → ⊥
 some_not_none None P holds e = holds

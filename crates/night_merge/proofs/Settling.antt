@@ -1,5 +1,5 @@
 -- How the closing lines of a part are settled, one after the other.
-use Rattle.std.proofs.Common.{◌≡◌, ℕ, suc, ◌+◌, ◌-◌, ◌%◌, ◌^◌, ◌<◌, ◌≤◌, ◌⊎◌, min, inl, inr, List, ◌∷◌, ◌++◌, Option, length, drop, get_or, refl, sym, ap, ◌∙◌, arith, append_assoc}
+use Rattle.std.proofs.Common.{◌≡◌, ℕ, suc, ◌+◌, ◌-◌, ◌%◌, ◌^◌, ◌<◌, ◌≤◌, ◌⊎◌, min, inl, inr, List, ◌∷◌, ◌++◌, Option, length, drop, get_or, slice_index, refl, sym, ap, ◌∙◌, arith, append_assoc}
 use Rattle.std.proofs.lemmas.Bool.{cases_lt}
 use Rattle.std.proofs.lemmas.List.{drop-drop, get_or-set_same, get_or-set_other}
 use Rattle.std.proofs.Math.Nat.{add-mod_right, mod-le}
@@ -8,7 +8,7 @@ use Rattle.std.specs.Borrow.{Bor}
 use Rattle.std.proofs.Math.Seq.{drop-cons}
 use Rattle.deck_reader.specs.declared.batch.Account.{Account}
 use Rattle.night_merge.specs.Closing.{HasOwn, IsLower, Settled, StatesLeft}
-use Rattle.night_merge.specs.Texts.{chain_lines, closing_line}
+use Rattle.night_merge.specs.Texts.{chain_lines, closing_line, closing_title}
 use Rattle.night_merge.proofs.Chains.{first_line, mod_apart, next_line}
 
 -- the closing lines of the chain's accounts are settled up to this number; those from there on, and then this text, are still to be read
@@ -37,17 +37,22 @@ same_place : (c chain : ℕ) (before after : ℕ → ℕ) (m n : ℕ) (accounts 
 same_place c chain before after m n accounts (inl e) = ap (λ (k : ℕ). chain_lines c chain before after k (drop k accounts)) e
 same_place c chain before after m n accounts (inr both) = none_left c chain before after m n accounts both.0 both.1
 
+-- the lines of a chain's accounts from one of them on
+lines_from : (c chain : ℕ) (before after : ℕ → ℕ) (accounts : List Account) (at : ℕ) (account : Account) → 0 < c → at % c ≡ chain → at < length accounts → get_or accounts at account ≡ account
+    → chain_lines c chain before after at (drop at accounts) ≡ closing_line account.name (before at) (after at) ++ chain_lines c chain before after (at + c) (drop (at + c) accounts)
+lines_from c chain before after accounts at account some own within is =
+    let cut : drop at accounts ≡ account ∷ drop (suc at) accounts = drop-cons accounts at account within ∙ ap (λ (a : Account). a ∷ drop (suc at) accounts) is in
+    ap (chain_lines c chain before after at) cut
+    ∙ next_line c chain before after at account (drop (suc at) accounts) some own
+    ∙ ap (λ (l : List Account). closing_line account.name (before at) (after at) ++ chain_lines c chain before after (at + c) l) (ap (drop c) (sym cut) ∙ drop-drop c at accounts)
+
 -- the line of the account at this number
 pub line_here : (c chain : ℕ) (before after : ℕ → ℕ) (accounts : List Account) (text rest : List ℕ) (at : ℕ) (account : Account) → 0 < c → at % c ≡ chain → at < length accounts
     → get_or accounts at account ≡ account → rest ≡ chain_lines c chain before after at (drop at accounts) ++ text
     → rest ≡ closing_line account.name (before at) (after at) ++ (chain_lines c chain before after (at + c) (drop (at + c) accounts) ++ text)
 line_here c chain before after accounts text rest at account some own within is e =
-    let cut : drop at accounts ≡ account ∷ drop (suc at) accounts = drop-cons accounts at account within ∙ ap (λ (a : Account). a ∷ drop (suc at) accounts) is in
-    let lines : chain_lines c chain before after at (drop at accounts) ≡ closing_line account.name (before at) (after at) ++ chain_lines c chain before after (at + c) (drop (at + c) accounts) =
-    ap (chain_lines c chain before after at) cut
-    ∙ next_line c chain before after at account (drop (suc at) accounts) some own
-    ∙ ap (λ (l : List Account). closing_line account.name (before at) (after at) ++ chain_lines c chain before after (at + c) l) (ap (drop c) (sym cut) ∙ drop-drop c at accounts) in
-    e ∙ ap (λ (l : List ℕ). l ++ text) lines ∙ append_assoc (closing_line account.name (before at) (after at)) (chain_lines c chain before after (at + c) (drop (at + c) accounts)) text
+    e ∙ ap (λ (l : List ℕ). l ++ text) (lines_from c chain before after accounts at account some own within is)
+    ∙ append_assoc (closing_line account.name (before at) (after at)) (chain_lines c chain before after (at + c) (drop (at + c) accounts)) text
 
 in_reach : (c at next k : ℕ) (accounts : List Account) → ((next ≡ at + c) ⊎ ((length accounts ≤ next) × (length accounts ≤ at + c))) → k < length accounts → k < next → k < at + c
 in_reach c at next k accounts (inl e) within early = omega (arith, e)
@@ -118,3 +123,58 @@ next_place at c next count e few =
 pub next_own : (at c chain next count : ℕ) → (next ≡ at + c) ⊎ ((count ≤ next) × (count ≤ at + c)) → at % c ≡ chain → next < count → next % c ≡ chain
 next_own at c chain next count (inl e) own within = ap (λ (n : ℕ). n % c) e ∙ add-mod_right at c ∙ own
 next_own at c chain next count (inr both) own within = absurd (omega (arith, both.0, within))
+
+-- ---- closing lines that are taken for the chain's
+
+-- Up to this number the lines were read, and those that stand before the rest open with what the accounts had at the start, and close with what they have; the accounts from
+-- there on have what they had.
+pub record Opening (c chain : ℕ) (accounts : List Account) (closing : List ℕ) (at : ℕ) (rest start left : List ℕ) : Type 0 where
+  pub untouched : (k : ℕ) → k < length accounts → at ≤ k → get_or left k 0 ≡ get_or start k 0
+  pub whole : (after : ℕ → ℕ) (text : List ℕ) → ((k : ℕ) → k < at → k % c ≡ chain → get_or left k 0 ≡ after k)
+      → rest ≡ chain_lines c chain (slice_index start) after at (drop at accounts) ++ text
+      → closing ≡ closing_title ++ (chain_lines c chain (slice_index start) after 0 accounts ++ text)
+
+pub opening_begins : (c chain : ℕ) (accounts : List Account) (closing rest start : List ℕ) → chain < c → closing ≡ closing_title ++ rest → Opening c chain accounts closing chain rest start start
+opening_begins c chain accounts closing rest start less is = record {
+  untouched = λ k within late. refl;
+  whole = λ after text settled e.
+      is ∙ ap (λ (l : List ℕ). closing_title ++ l) (e ∙ ap (λ (l : List ℕ). l ++ text) (sym (first_line c chain (slice_index start) after accounts less)));
+}
+
+goes_up : (c at next : ℕ) (accounts : List Account) → ((next ≡ at + c) ⊎ ((length accounts ≤ next) × (length accounts ≤ at + c))) → 0 < c → at < length accounts → at < next
+goes_up c at next accounts (inl e) some within = omega (arith, e)
+goes_up c at next accounts (inr both) some within = omega (arith, both.0)
+
+pub opening_more : (c chain : ℕ) (accounts : List Account) (closing : List ℕ) (at next balance : ℕ) (rest behind start left grown name : List ℕ) (account : Account)
+    → ((next ≡ at + c) ⊎ ((length accounts ≤ next) × (length accounts ≤ at + c))) → 0 < c → at % c ≡ chain → at < length accounts → length accounts ≡ length left
+    → account ≡ get_or accounts at account → name ≡ (get_or accounts at account).name → rest ≡ closing_line name (get_or left at 0) balance ++ behind → grown ≡ set left at balance
+    → Opening c chain accounts closing at rest start left → Opening c chain accounts closing next behind start grown
+opening_more c chain accounts closing at next balance rest behind start left grown name account place some own within many is named line set_is o = record {
+  untouched = λ k inside late.
+      let past = beyond c at next k accounts place some inside late in
+      ap (λ (l : List ℕ). get_or l k 0) set_is ∙ get_or-set_other left at k balance 0 (λ same. omega (arith, past, same)) ∙ o.untouched k inside (omega (arith, past));
+  whole = λ after text settled e.
+      let up = goes_up c at next accounts place some within in
+      let here : balance ≡ after at = sym (get_or-set_same left at balance 0 (omega (arith, within, many))) ∙ ap (λ (l : List ℕ). get_or l at 0) (sym set_is) ∙ settled at up own in
+      let opened : get_or left at 0 ≡ slice_index start at = o.untouched at within (omega arith) in
+      let called : name ≡ account.name = named ∙ ap (λ (a : Account). a.name) (sym is) in
+      let further = chain_lines c chain (slice_index start) after (at + c) (drop (at + c) accounts) in
+      let others : behind ≡ further ++ text = e ∙ ap (λ (l : List ℕ). l ++ text) (same_place c chain (slice_index start) after next (at + c) accounts place) in
+      o.whole after text
+      (λ k early in_chain.
+      sym (ap (λ (l : List ℕ). get_or l k 0) set_is ∙ get_or-set_other left at k balance 0 (λ same. omega (arith, early, same))) ∙ settled k (omega (arith, early, up)) in_chain)
+      (line
+      ∙ ap (λ (n : List ℕ). closing_line n (get_or left at 0) balance ++ behind) called
+      ∙ ap (λ (b : ℕ). closing_line account.name b balance ++ behind) opened
+      ∙ ap (λ (b : ℕ). closing_line account.name (slice_index start at) b ++ behind) here
+      ∙ ap (λ (l : List ℕ). closing_line account.name (slice_index start at) (after at) ++ l) others
+      ∙ sym (append_assoc (closing_line account.name (slice_index start at) (after at)) further text)
+      ∙ ap (λ (l : List ℕ). l ++ text) (sym (lines_from c chain (slice_index start) after accounts at account some own within (sym is))));
+}
+
+-- behind the last one the whole is known
+pub opening_ends : (c chain : ℕ) (accounts : List Account) (closing : List ℕ) (at : ℕ) (rest start left : List ℕ) → length accounts ≤ at → Opening c chain accounts closing at rest start left
+    → closing ≡ closing_title ++ (chain_lines c chain (slice_index start) (slice_index left) 0 accounts ++ rest)
+opening_ends c chain accounts closing at rest start left past o =
+    o.whole (slice_index left) rest (λ k early own. refl)
+    (sym (ap (λ (l : List Account). chain_lines c chain (slice_index start) (slice_index left) at l ++ rest) (drop_of_length-le accounts past)))

@@ -1,5 +1,5 @@
 -- Why the joining of a night stops, by what stopped it.
-use Rattle.std.specs.Prelude.{ℕ, ◌≡◌, ◌≤◌, ◌<◌, ◌⊎◌, ⊤, List, Option, None}
+use Rattle.std.specs.Prelude.{ℕ, ◌≡◌, ◌≤◌, ◌<◌, ◌⊎◌, ⊤, List, Option, None, Some}
 use Rattle.night_merge.specs.declared.shelf.Part.{Part}
 use Rattle.night_merge.specs.declared.shelf.Unfetched.{Unfetched}
 use Rattle.night_merge.specs.declared.stop.Unread.{Unread}
@@ -34,6 +34,19 @@ IsFair known stop.WriteFault = ⊤
 IsFair known stop.BadPlan = ⊥
 IsFair known (stop.Missing part) = known part ≡ None
 IsFair known (stop.OtherListing part) = ⊥
+
+-- the part that is named
+abbrev pub named : Stop → Option Part
+named stop.NoMemory = None
+named stop.ReadFault = None
+named stop.WriteFault = None
+named stop.BadPlan = None
+named (stop.Missing part) = Some part
+named (stop.OtherListing part) = Some part
+
+-- where a part is named, it is of this window
+abbrev pub IsNamedIn : ℕ → Stop → Type 0
+IsNamedIn number s = (part : Part) → named s ≡ Some part → part.window ≡ number
 
 -- ---- where a night is joined from listings that needn't be those of its parts
 

@@ -1,4 +1,4 @@
-ghost use Rattle.std.specs.Prelude.{◌≡◌, ◌++◌, ◌∷◌, ◌-◌, ◌≤◌, ◌<◌, ℕ, List, Some, true, codes, decimal, IfOk, OnOk, length, slice_index};
+ghost use Rattle.std.specs.Prelude.{◌≡◌, ◌++◌, ◌∷◌, ◌-◌, ◌≤◌, ◌<◌, ℕ, List, Some, true, codes, decimal, IfOk, IfSome, OnOk, length, slice_index};
 ghost use Rattle.night_merge.specs.Closing.{HasOwn, IsLower, Settled, StatesLeft};
 ghost use Rattle.night_merge.specs.Texts.{balances_file, chain_lines, closing, closing_front, closing_line, closing_lines, closing_title, stray_line};
 
@@ -29,9 +29,12 @@ pub fn settle(
 ) -> Result<bool, AllocError>
     requires there { length left.old ≡ length accounts.now }
     requires within { place.chain < place.chains }
-    ensures { (before after : ℕ → ℕ) (stray : List ℕ) → HasOwn place.chains place.chain left.old before → IsLower (length left.old) after before
+    ensures settled { (before after : ℕ → ℕ) (stray : List ℕ) → HasOwn place.chains place.chain left.old before → IsLower (length left.old) after before
         → closing.now ≡ closing_title ++ (chain_lines place.chains place.chain before after 0 accounts.now ++ (codes "STRAY CARDS " ++ stray))
         → IfOk result (λ are. (are ≡ true) × Settled place.chains place.chain after left.old left.new) }
+    // No others are: they open with what the part before has left.
+    ensures opens { IfOk result (λ are. are ≡ true → (stray : List ℕ)
+        × (closing.now ≡ closing_title ++ (chain_lines place.chains place.chain (slice_index left.old) (slice_index left.new) 0 accounts.now ++ (codes "STRAY CARDS " ++ stray)))) }
 {
     let Some(mut rest) = behind(closing, TITLE) else {
         return Ok(false);
@@ -57,8 +60,9 @@ fn left_on<'a>(
     opening: u64,
     text: &'a [u8],
 ) -> Result<Option<(u64, &'a [u8])>, AllocError>
-    ensures { (left : ℕ) (rest : List ℕ) → left ≤ opening → text.now ≡ closing_line name.now opening left ++ rest
+    ensures left { (left : ℕ) (rest : List ℕ) → left ≤ opening → text.now ≡ closing_line name.now opening left ++ rest
         → IfOk result (λ read. StatesLeft left rest read) }
+    ensures line { IfOk result (λ read. IfSome read (λ r. text.now ≡ closing_line name.now opening r.0 ++ r.1.now)) }
 {
     let front = front_of(alloc, name, opening)?;
     let Some(balance) = charged_on(front.as_slice(), opening, text) else {

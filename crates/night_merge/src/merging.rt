@@ -6,7 +6,7 @@ ghost use Rattle.night_merge.specs.declared.shelf.Part.{Part};
 ghost use Rattle.night_merge.specs.Closing.{HasLeft};
 ghost use Rattle.night_merge.specs.Nights.{AreWindows, IsNight, left_in, night_text, windows_joined};
 ghost use Rattle.night_merge.specs.Plan.{Plan, first_line, lines_behind, plan_text};
-ghost use Rattle.night_merge.specs.Stops.{IsFair, IsFault, IsWhy};
+ghost use Rattle.night_merge.specs.Stops.{AgreeBefore, IsFair, IsFault, IsWhy, named};
 ghost use Rattle.night_merge.specs.Texts.{balances_file, closing, closing_lines};
 ghost use Rattle.night_merge.specs.Writing.{AppendsPrefix};
 
@@ -50,6 +50,12 @@ pub fn merge_night<P: Source, L: Listings, K: Sink, B: Sink>(
     ensures why { (plan : Plan) (more : List ℕ) (known seen : Part → Option (List ℕ)) (rests : ℕ → ℕ → List (List ℕ)) (left : ℕ → ℕ → ℕ)
         → P.left src.old ≡ Some (plan_text plan ++ more) → L.listings listings.old ≡ Some known → IsNight plan seen rests left
         → IfErr result (λ stop. IsWhy plan.chains (length plan.windows) seen known stop) }
+
+    // Where a part is named, and the listings of the windows before its own are those of the night, a prefix of the night's listing is written, and no balances are.
+    ensures named { (plan : Plan) (more : List ℕ) (known seen : Part → Option (List ℕ)) (rests : ℕ → ℕ → List (List ℕ)) (left : ℕ → ℕ → ℕ)
+        → P.left src.old ≡ Some (plan_text plan ++ more) → L.listings listings.old ≡ Some known → IsNight plan seen rests left
+        → IfErr result (λ stop. (part : Part) → named stop ≡ Some part → AgreeBefore seen known part.window
+        → AppendsPrefix (K.written sink.old) (K.written sink.new) (night_text plan rests (left_in plan left)) × (B.written balances.new ≡ B.written balances.old)) }
 
     // Each fault has its cause, and none is passed over.
     ensures kept { OnOk result ((P.faults src.new ≡ P.faults src.old) × (L.faults listings.new ≡ L.faults listings.old)
@@ -150,6 +156,11 @@ fn write_windows<P: Source, L: Listings, K: Sink>(
         → length windows < 2 ^ 32 - 2 → stray < 2 ^ 64 → line ≡ first_line 1 windows stray → prepend_known plan.old (P.left src.old) ≡ Some (lines_behind 1 windows stray ++ more)
         → L.listings listings.old ≡ Some known → HasLeft left.old (balances 1) → AreWindows night.entry.chains night.entry.accounts.now seen rests balances 1 windows
         → IfErr result (λ stop. IsWhy night.entry.chains (length windows) seen known stop) }
+    ensures named { (windows : List (List Entry)) (stray : ℕ) (more : List ℕ) (known seen : Part → Option (List ℕ)) (rests : ℕ → ℕ → List (List ℕ)) (balances : ℕ → ℕ → ℕ)
+        → length windows < 2 ^ 32 - 2 → stray < 2 ^ 64 → line ≡ first_line 1 windows stray → prepend_known plan.old (P.left src.old) ≡ Some (lines_behind 1 windows stray ++ more)
+        → L.listings listings.old ≡ Some known → HasLeft left.old (balances 1) → AreWindows night.entry.chains night.entry.accounts.now seen rests balances 1 windows
+        → IfErr result (λ stop. (part : Part) → named stop ≡ Some part → AgreeBefore seen known part.window
+        → AppendsPrefix (K.written sink.old) (K.written sink.new) (windows_joined 1 1 rests windows)) }
     ensures kept { OnOk result ((P.faults src.new ≡ P.faults src.old) × (L.faults listings.new ≡ L.faults listings.old) × (K.faults sink.new ≡ K.faults sink.old)) }
     ensures read { IsErrOf result Stop.ReadFault → Rose (P.faults src.old) (P.faults src.new) ⊎ Rose (L.faults listings.old) (L.faults listings.new) }
     ensures write { IsErrOf result Stop.WriteFault → Rose (K.faults sink.old) (K.faults sink.new) }

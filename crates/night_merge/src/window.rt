@@ -6,7 +6,7 @@ ghost use Rattle.night_merge.specs.Closing.{HasLeft, HasOwn, IsLower, Settles};
 ghost use Rattle.night_merge.specs.Entries.{AreBelow, count_of, is_below};
 ghost use Rattle.night_merge.specs.Joining.{IsWindow, first_of, joined, left_by, refused_rest, rest_by};
 ghost use Rattle.night_merge.specs.Parts.{IsPart, part_at};
-ghost use Rattle.night_merge.specs.Stops.{AgreeBefore, IsFair, IsFault, IsOwn, IsWhy};
+ghost use Rattle.night_merge.specs.Stops.{AgreeBefore, IsFair, IsFault, IsNamedIn, IsOwn, IsWhy, named};
 ghost use Rattle.night_merge.specs.Supplies.{AreEnough, HasCounts, HasNext, HasRests, HasTexts, Supplies};
 ghost use Rattle.night_merge.specs.Texts.{chain_lines, numbered};
 ghost use Rattle.night_merge.specs.Writing.{AppendsPrefix};
@@ -75,6 +75,10 @@ pub fn write_window<L: Listings, K: Sink>(
         → (AgreeBefore seen known window.entry.number → HasLeft left.old before)
         → IsWindow night.entry.chains night.entry.accounts.now seen window.entry.number window.entry.entries.now rests before after
         → 0 < window.entry.number → window.entry.number ≤ windows → IfErr result (λ stop. IsWhy night.entry.chains windows seen known stop) }
+    // A part that is named is of this window, and nothing of the window is written then.
+    ensures named { (seen : Part → Option (List ℕ)) (rests : ℕ → List (List ℕ)) (before after : ℕ → ℕ)
+        → IsWindow night.entry.chains night.entry.accounts.now seen window.entry.number window.entry.entries.now rests before after
+        → IfErr result (λ stop. (part : Part) → named stop ≡ Some part → (part.window ≡ window.entry.number) × (K.written sink.new ≡ K.written sink.old)) }
     ensures stays { (known : Part → Option (List ℕ)) → L.listings listings.old ≡ Some known → L.listings listings.new ≡ Some known }
     ensures kept { OnOk result ((L.faults listings.new ≡ L.faults listings.old) × (K.faults sink.new ≡ K.faults sink.old)) }
     ensures read { IsErrOf result Stop.ReadFault → Rose (L.faults listings.old) (L.faults listings.new) }
@@ -94,6 +98,7 @@ fn fetch_texts<L: Listings>(
 ) -> Result<Vec<Vec<u8>>, Stop>
     ensures found { (known : Part → Option (List ℕ)) → L.listings listings.old ≡ Some known
         → MatchResult result (λ texts. HasTexts known window.entry.number window.entry.entries.now texts.items) (λ stop. IsFair known stop) }
+    ensures named { IfErr result (λ stop. IsNamedIn window.entry.number stop) }
     ensures all { IfOk result (λ texts. length texts.items ≡ night.entry.chains) }
     ensures stays { (known : Part → Option (List ℕ)) → L.listings listings.old ≡ Some known → L.listings listings.new ≡ Some known }
     ensures kept { OnOk result (L.faults listings.new ≡ L.faults listings.old) }
@@ -117,6 +122,7 @@ fn fetch<L: Listings>(
     requires { chain < 2 ^ 32 - 1 }
     ensures found { (known : Part → Option (List ℕ)) → L.listings listings.old ≡ Some known
         → MatchResult result (λ text. 0 < count_of chain window.entry.entries.now → known (part_at chain window.entry.number) ≡ Some text.items) (λ stop. IsFair known stop) }
+    ensures named { IfErr result (λ stop. IsNamedIn window.entry.number stop) }
     ensures stays { (known : Part → Option (List ℕ)) → L.listings listings.old ≡ Some known → L.listings listings.new ≡ Some known }
     ensures kept { OnOk result (L.faults listings.new ≡ L.faults listings.old) }
     ensures read { IsErrOf result Stop.ReadFault → Rose (L.faults listings.old) (L.faults listings.new) }
@@ -163,6 +169,7 @@ fn rests_by_chain<'a>(
         → (AgreeBefore seen known window.entry.number → HasLeft left.old before)
         → IsWindow night.entry.chains night.entry.accounts.now seen window.entry.number window.entry.entries.now rests before after
         → 0 < window.entry.number → window.entry.number ≤ windows → IfErr result (λ stop. IsWhy night.entry.chains windows seen known stop) }
+    ensures named { IfErr result (λ stop. IsNamedIn window.entry.number stop) }
     ensures many { IfOk result (λ own. HasCounts window.entry.entries.now own.items) }
     ensures counted { IfOk result (λ own. length own.items ≡ night.entry.chains) }
     ensures faultless { (IsErrOf result Stop.ReadFault → ⊥) × (IsErrOf result Stop.WriteFault → ⊥) }

@@ -6,7 +6,7 @@ use Rattle.night_merge.specs.Stops.{IsWhy, stop_unread}
 use Rattle.night_merge.specs.declared.plan.Line.TheVariants.{Night}
 use Rattle.night_merge.specs.declared.stop.Stop.TheVariants.{WriteFault}
 use Rattle.night_merge.proofs.Nights.{chains_are, closing_as, file_as, heading_cut, last_cut, last_on, left_begins, nothing_yet, opened_length, plan_ahead, prefix_so, stopped, windows_begun, windows_of, windows_on, wrote_so}
-use Rattle.night_merge.proofs.Reasons.{fault_why, unread_why}
+use Rattle.night_merge.proofs.Reasons.{fault_unnamed, fault_why, unread_unnamed, unread_why}
 use Rattle.night_merge.proofs.Results.{fault_fair, match_map, unread_fair}
 use Rattle.night_merge.proofs.Supplying.{written_back}
 use Rattle.night_merge.proofs.Windows.{first_ends, first_said}
@@ -24,6 +24,8 @@ returns-in_default g c = record {
   cut = λ plan more known rests left there shelf night.
       absurd (c.in_default.not-Night plan.chains (c.in_ok-chains.ensures.line (Night plan.chains) _ night.few_chains (plan_ahead _ _ plan more c.in_ok-plan.ensures there)).0);
   why = λ plan more known seen rests left there shelf night.
+      absurd (c.in_default.not-Night plan.chains (c.in_ok-chains.ensures.line (Night plan.chains) _ night.few_chains (plan_ahead _ _ plan more c.in_ok-plan.ensures there)).0);
+  named = λ plan more known seen rests left there shelf night.
       absurd (c.in_default.not-Night plan.chains (c.in_ok-chains.ensures.line (Night plan.chains) _ night.few_chains (plan_ahead _ _ plan more c.in_ok-plan.ensures there)).0);
   kept = tt;
   read = λ other. absurd (cc other);
@@ -142,3 +144,34 @@ returns-in_err-stray-clause-why g c = λ plan more known seen rests left there s
 pub returns-clause-why : goal.returns-clause-why
 returns-clause-why g c = λ plan more known seen rests left there shelf night.
     match_map c.close.result _ _ _ _ (λ x any. any) (λ stop cut. fault_why plan.chains (length plan.windows) seen known stop cut.0) c.close.ensures.cut
+
+-- ---- what is written where a part is named
+
+pub returns-in_err-chains-clause-named : goal.returns-in_err-chains-clause-named
+returns-in_err-chains-clause-named g c = λ plan more known seen rests left there shelf night.
+    stopped c.from_residual-in_err-chains.result (stop_unread c.in_err-chains.field-0.0) _ c.from_residual-in_err-chains.ensures.1 (λ part names agree. absurd (unread_unnamed c.in_err-chains.field-0.0 part names))
+
+pub returns-in_err-accounts-clause-named : goal.returns-in_err-accounts-clause-named
+returns-in_err-accounts-clause-named g c = λ plan more known seen rests left there shelf night.
+    stopped c.from_residual-in_err-accounts.result (stop_unread c.in_err-accounts.field-0.0) _ c.from_residual-in_err-accounts.ensures.1 (λ part names agree. absurd (unread_unnamed c.in_err-accounts.field-0.0 part names))
+
+pub returns-in_err-stray-clause-named : goal.returns-in_err-stray-clause-named
+returns-in_err-stray-clause-named g c = λ plan more known seen rests left there shelf night.
+    let read = c.in_ok-chains.ensures.line (Night plan.chains) _ night.few_chains (plan_ahead _ _ plan more c.in_ok-plan.ensures there) in
+    let said = first_said 1 plan.windows plan.stray (lit< tt) night.few_stray in
+    let lines =
+    c.in_ok-accounts.ensures.accounts plan.accounts (first_line 1 plan.windows plan.stray) (lines_behind 1 plan.windows plan.stray ++ more) night.opened night.few_accounts said (first_ends 1 plan.windows plan.stray).1 read.1 in
+    let accounts : c.as_slice.result.now ≡ plan.accounts = c.as_slice.ensures.value ∙ lines.0 in
+    let chains : c.in-Night.chains ≡ plan.chains = chains_are c.in-Night.chains plan.chains plan.chains _ c.in-Night.is read.0 refl in
+    let has = left_begins c.as_slice.result.now plan.accounts c.as_mut_slice.result.now (left 1) accounts (c.as_mut_slice.ensures.value ∙ c.in_ok-left.ensures) night.opens in
+    let windows = windows_of c.in-Night.chains plan.chains c.as_slice.result.now plan.accounts seen rests left plan.windows chains accounts night.windows in
+    stopped c.from_residual-in_err-stray.result c.in_err-stray.field-0.0 _ c.from_residual-in_err-stray.ensures.1
+    (λ part names agree. (
+      windows_begun _ _ _ plan rests (left_in plan left) c.in_ok-write_all.ensures.ok
+          (c.in_err-stray.ensures.named plan.windows plan.stray more known seen rests left night.few_windows night.few_stray lines.1 lines.2 shelf has windows part names agree),
+      refl,
+    ))
+
+pub returns-clause-named : goal.returns-clause-named
+returns-clause-named g c = λ plan more known seen rests left there shelf night.
+    match_map c.close.result _ _ _ _ (λ x any. any) (λ stop cut part names. absurd (fault_unnamed stop part cut.0 names)) c.close.ensures.cut

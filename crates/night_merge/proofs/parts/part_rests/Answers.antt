@@ -24,12 +24,12 @@ returns-in_default-2-clause-part c = λ rests before after many has low p.
 pub returns-then-not-branch-clause-part : goal.returns-then-not-branch-clause-part
 returns-then-not-branch-clause-part c = λ rests before after many has low p.
     let taken = some_and c.in_ok-parts.field-0 c.in-Some.parts _ (c.in_ok-parts.ensures p.up p.closing_part p.sections_part p.upward p.form) c.in-Some.is in
-    let settled = c.in_ok-settle.ensures before after (decimal p.stray ++ 10 ∷ []) has low (taken.1 ∙ p.closing_is) in
+    let settled = c.in_ok-settle.ensures.settled before after (decimal p.stray ++ 10 ∷ []) has low (taken.1 ∙ p.closing_is) in
     absurd (cc (settled.0, c.if-not-branch.true))
 
 pub returns-clause-part : goal.returns-clause-part
 returns-clause-part c = λ rests before after many has low p.
     let taken = some_and c.in_ok-parts.field-0 c.in-Some.parts _ (c.in_ok-parts.ensures p.up p.closing_part p.sections_part p.upward p.form) c.in-Some.is in
     let down = ap (λ (l : List (Bor (List ℕ))). shown l) c.as_slice.ensures.value ∙ sections_down p.sections_part rests c.in-Some.parts.sections.items p.sections_are taken.0 in
-    let settled = c.in_ok-settle.ensures before after (decimal p.stray ++ 10 ∷ []) has low (taken.1 ∙ p.closing_is) in
+    let settled = c.in_ok-settle.ensures.settled before after (decimal p.stray ++ 10 ∷ []) has low (taken.1 ∙ p.closing_is) in
     (some_and c.in_ok-rests.field-0 c.in-Some-2.rests _ (c.in_ok-rests.ensures.rests rests p.blanks down) c.in-Some-2.is, settled.1)

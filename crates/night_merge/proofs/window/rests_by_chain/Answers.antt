@@ -11,7 +11,7 @@ use Rattle.night_merge.specs.declared.stop.Stop.TheVariants.{NoMemory}
 use Rattle.night_merge.proofs.Chainwise.{UpTo, up_to_ends, up_to_more, up_to_own}
 use Rattle.night_merge.proofs.Fetching.{counts_more, rests_more}
 use Rattle.night_merge.proofs.Nights.{stopped}
-use Rattle.night_merge.proofs.Reasons.{own_why}
+use Rattle.night_merge.proofs.Reasons.{own_named, own_why}
 use Rattle.night_merge.proofs.Results.{match_this}
 use Rattle.night_merge.proofs.window.rests_by_chain.Goals as goal
 
@@ -40,6 +40,10 @@ returns-in_err-rests_in-clause-why c = λ known seen rests before after windows 
     (λ some. subst P (sym c.as_slice-text.ensures.value) (is.parts chain c.index-texts-chain.result.items c.loop-chain-test.true some
     (agree (part_at chain number) (inr (refl, omega arith))
     ∙ texts chain c.index-texts-chain.result (slice_get_read c.args.texts.now c.args.night.chains chain c.index-texts-chain.result (sym c.requires.all) c.loop-chain-test.true c.index-texts-chain.is) some)))))
+
+pub returns-in_err-rests_in-clause-named : goal.returns-in_err-rests_in-clause-named
+returns-in_err-rests_in-clause-named c =
+    stopped c.from_residual.result c.in_err-rests_in.field-0.0 _ c.from_residual.ensures.1 (own_named c.loop-chain.chain c.args.window.number c.in_err-rests_in.field-0.0 c.in_err-rests_in.ensures.own)
 
 pub loop-chain-preserved : goal.loop-chain-preserved
 loop-chain-preserved c = (

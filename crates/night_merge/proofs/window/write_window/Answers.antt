@@ -1,11 +1,11 @@
-use Rattle.std.proofs.Common.{◌≡◌, ℕ, List, length, sym, ap, ◌∙◌, arith, subst}
+use Rattle.std.proofs.Common.{◌≡◌, ℕ, List, length, refl, sym, ap, ◌∙◌, arith, subst}
 use Rattle.std.specs.Borrow.{Bor}
 use Rattle.std.specs.declared.alloc.Global.{Global}
 use Rattle.std.specs.declared.vec.Vec.{Vec}
 use Rattle.night_merge.specs.Entries.{AreBelow}
 use Rattle.night_merge.specs.Supplies.{HasCounts, HasRests, HasTexts}
 use Rattle.night_merge.proofs.Nights.{stopped}
-use Rattle.night_merge.proofs.Reasons.{fair_why, fault_why, supply_enough, supply_has, supply_of}
+use Rattle.night_merge.proofs.Reasons.{fair_why, fault_unnamed, fault_why, supply_enough, supply_has, supply_of}
 use Rattle.night_merge.proofs.Results.{fault_fair, match_map, match_this, memory_fault}
 use Rattle.night_merge.proofs.Written.{all_left, prefix_written}
 use Rattle.night_merge.proofs.window.write_window.Goals as goal
@@ -45,4 +45,21 @@ returns-clause-why g c = λ known seen rests before after windows e has is low h
     let counts = subst C (sym c.as_slice-2.ensures.value) c.in_ok-rests.ensures.many in
     let many : length c.as_slice-2.result.now ≡ c.args.night.chains = ap (λ (l : List (Vec (Bor (List ℕ)) Global)). length l) c.as_slice-2.ensures.value ∙ c.in_ok-rests.ensures.counted in
     match_map c.write_sections.result _ _ _ _ (λ x wrote. tt) (λ stop cut. fault_why c.args.night.chains windows seen known stop cut.1)
+    (c.write_sections.ensures.joined (supply_of c.as_slice-2.result.now) (supply_has c.as_slice-2.result.now) (subst B (sym many) is.below) (supply_enough c.args.window.entries.now c.as_slice-2.result.now counts))
+
+pub returns-in_err-texts-clause-named : goal.returns-in_err-texts-clause-named
+returns-in_err-texts-clause-named g c = λ seen rests before after is.
+    stopped c.from_residual.result c.in_err-texts.field-0.0 _ c.from_residual.ensures.1 (λ part names. (c.in_err-texts.ensures.named part names, refl))
+
+pub returns-in_err-rests-clause-named : goal.returns-in_err-rests-clause-named
+returns-in_err-rests-clause-named g c = λ seen rests before after is.
+    stopped c.from_residual-in_err-rests.result c.in_err-rests.field-0.0 _ c.from_residual-in_err-rests.ensures.1 (λ part names. (c.in_err-rests.ensures.named part names, refl))
+
+pub returns-clause-named : goal.returns-clause-named
+returns-clause-named g c = λ seen rests before after is.
+    let C : List (Vec (Bor (List ℕ)) Global) → Type 0 = λ l. HasCounts c.args.window.entries.now l in
+    let B : ℕ → Type 0 = λ n. AreBelow n c.args.window.entries.now in
+    let counts = subst C (sym c.as_slice-2.ensures.value) c.in_ok-rests.ensures.many in
+    let many : length c.as_slice-2.result.now ≡ c.args.night.chains = ap (λ (l : List (Vec (Bor (List ℕ)) Global)). length l) c.as_slice-2.ensures.value ∙ c.in_ok-rests.ensures.counted in
+    match_map c.write_sections.result _ _ _ _ (λ x wrote. tt) (λ stop cut part names. absurd (fault_unnamed stop part cut.1 names))
     (c.write_sections.ensures.joined (supply_of c.as_slice-2.result.now) (supply_has c.as_slice-2.result.now) (subst B (sym many) is.below) (supply_enough c.args.window.entries.now c.as_slice-2.result.now counts))
